@@ -12,7 +12,7 @@ search by calls has to find the same. PROGRAM, or what the variable CPM names, i
 - `cpm replay`: the schedule that brute force found for a verdict leads to that verdict. After this
   and after random schedules both have the same state.
 - with --search, `cpm search`: it finds the same verdicts, with the same least numbers of late
-  steps.
+  steps. It does so, too, if random processes are servers, as does `cpm outcome`.
 
 Programs are random, or with --repository those of the repository. Those with more than --states
 states are left out, and those that use the clock. The script prints what is wrong, with the seed of
@@ -100,10 +100,10 @@ def has_fault(report):
     return any(re.match(r'process \d+ fault', line) for line in report)
 
 
-def try_outcomes(what, file, possible):
+def try_outcomes(what, file, possible, words=()):
     """Tries `cpm outcome` with turns of several lengths. A program may run forever."""
     for turn in TURNS:
-        status, _, error = run(['outcome', file, '--turn', str(turn)])
+        status, _, error = run(['outcome', file, '--turn', str(turn), *words])
         found = EXITS.get(status, status)
         expect_one_of(f'{what}: turns of {turn} {error.decode()}', found, [*possible, 'running'])
 
@@ -148,12 +148,12 @@ def try_random_schedules(what, rng, brute, file):
         replayed(what, brute, file, random_schedule(rng, processes))
 
 
-def try_search(what, file, least):
+def try_search(what, file, least, words=()):
     """Compares `cpm search` with the least numbers of late steps: it finds the same kinds of states.
 
     A late step is a call of an entry or the `init` of a monitor.
     """
-    status, out, _ = run(['search', file, '--json'], timeout=600)
+    status, out, _ = run(['search', file, '--json', *words], timeout=600)
     found = json.loads(out)
     if 'stopped' in found:
         return
@@ -165,6 +165,17 @@ def try_search(what, file, least):
         if kinds[kind]:
             late_steps = kinds[kind]['inits'] + len(kinds[kind]['calls'])
             expect(f'{what}: late steps until {kind}', late_steps, least[kind])
+
+
+def try_servers(what, rng, brute, file, states):
+    """Compares outcomes and searches in which random processes may wait in a queue forever."""
+    processes = json.loads(run(['outcome', file, '--json'])[1])['processes']
+    servers = rng.sample(processes, rng.randint(1, len(processes)))
+    numbers = ','.join(str(server['process']) for server in servers)
+    least = least_steps(brute, file, '--servers', numbers, '--states', states)
+    what, words = f'{what}: servers {numbers}', ['--servers', ','.join(x['name'] for x in servers)]
+    try_outcomes(what, file, [kind for kind in least if kind != 'faulted'], words)
+    try_search(what, file, least, words)
 
 
 def try_program(number, source, brute, folder, asked):
@@ -186,6 +197,7 @@ def try_program(number, source, brute, folder, asked):
     try_random_schedules(what, random.Random(number), brute, file)
     if asked.search:
         try_search(what, file, least)
+        try_servers(what, random.Random(-number), brute, file, states)
     return ' or '.join(verdicts) or 'never still'
 
 

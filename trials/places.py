@@ -92,11 +92,16 @@ def reached(rng, planted, calls, depth=3):
 
 
 def process(rng, parameters, planted, calls, where):
-    """A process type `p` that comes to the planted statement, in its body or in the procedure `go`."""
+    """A process type `p` that comes to the planted statement: in its body, in the procedure `go`, or in that entry of a class with a right to its monitor."""
     calls = ['u.up', 'j := u.seen(2)', 'j := half(4)', 'h(3)', *calls]
-    front = '' if where == 'body' else f'procedure go ; begin {reached(rng, planted, [])} end ;'
-    last = planted if where == 'body' else f'{GO}go'
-    return (f'p = process{parameters} ; var {VARIABLES} ; u , x0 , w : counter ; '
+    go = f'go ; begin {reached(rng, planted, [])} end ;'
+    front = f'procedure {go}' if where == 'procedure' else ''
+    last = {'body': planted, 'procedure': f'{GO}go', 'class': f'begin init via(k) ; {GO}via.go end'}[where]
+    helper, via = '', ''
+    if where == 'class':
+        helper = f'helper = class(k : m) ; var {VARIABLES} ; procedure entry {go} begin i := 0 ; j := 0 end ; '
+        via = ' ; via : helper'
+    return (f'{helper}p = process{parameters} ; var {VARIABLES} ; u , x0 , w : counter{via} ; '
             'procedure h(n : small) ; begin j := n end ; '
             'function half(n : integer) : integer ; begin half := n div 2 end ; '
             f'function @2nothing : integer ; begin if 1 = 2 then nothing := 1 end ; {front} '
@@ -163,14 +168,14 @@ def try_delay(rng):
     go = f'procedure entry go ; begin continue(q{index}) end ;' if goes else ''
     monitor = (f'm = monitor ; var {VARIABLES} ; q : {of} ; procedure entry rest ; begin {reached(rng, f"@delay(q{index})", [])} end ; {go} '
                'begin i := 0 ; j := 0 end ;')
-    where = rng.choice(['body', 'procedure'])
+    where = rng.choice(['body', 'procedure', 'class'])
     helps = goes and rng.random() < 0.5
     helper = reached(rng, 'k.go', []) if helps else safe(rng, [])
     text = laid_out(rng, f'type {COUNTER} {monitor} {process(rng, "(k : m)", f"{INTO}k.rest", [], where)} r = process(k : m) ; var {VARIABLES} ; '
                     f'begin i := 0 ; j := 0 ; wait ; {helper} end ; var k : m ; a : p ; b : r ; begin init k , a(k) , b(k) end.')
     who = 'which b can call' if helps else 'which no other process calls'
     why = f'only k.go continues it, {who}' if goes else 'nothing continues it'
-    at = calls(*([GO] if where == 'procedure' else []), INTO)
+    at = calls(*([] if where == 'body' else [GO]), INTO)
     tell('a delay', text, ['--limit', '500', '--tick', '100000'], f'process 2 a: delayed in k.q{index} at @{at}; {why}')
 
 

@@ -19,6 +19,8 @@ KINDS = ('ALLOCATION', 'THREAD', 'READ', 'WRITE')
 LEAST_OF_RUN = {'ALLOCATION': 430, 'THREAD': 1, 'READ': 430, 'WRITE': 165}
 LEAST_OF_REPLAY = {'ALLOCATION': 495, 'THREAD': 0, 'READ': 610, 'WRITE': 165}
 LEAST_OF_OUTCOME = {'ALLOCATION': 460, 'THREAD': 1, 'READ': 300, 'WRITE': 170}
+LEAST_OF_OBJECT = {'ALLOCATION': 610, 'THREAD': 1, 'READ': 300, 'WRITE': 395}
+LEAST_OF_LOOP = {'ALLOCATION': 770, 'THREAD': 1, 'READ': 630, 'WRITE': 265}
 LEAST_OF_SEARCH = {'ALLOCATION': 1150, 'THREAD': 0, 'READ': 700, 'WRITE': 530}
 LEAST_OF_NAMED = {'ALLOCATION': 380, 'THREAD': 1, 'READ': 350, 'WRITE': 80}
 LEAST_OF_EXPLANATION = {'ALLOCATION': 150, 'THREAD': 0, 'READ': 190, 'WRITE': 385}
@@ -174,6 +176,8 @@ def commands(folder, resumed):
             ('a replay', LEAST_OF_REPLAY, ['replay', text, order, '--turn', '2', '--input', given], 0),
             ('a run with a named input', LEAST_OF_NAMED, ['run', capitals, '--rounds', '2', '--in', f't={named}'], 0),
             ('an outcome', LEAST_OF_OUTCOME, ['outcome', 'squarers.cp', '--turn', '4'], 6),
+            ('an outcome as an object', LEAST_OF_OBJECT, ['outcome', 'squarers.cp', '--turn', '4', '--json', '--show', 'initial'], 6),
+            ('an outcome with a loop', LEAST_OF_LOOP, ['outcome', 'deadlocks/starved.cp', '--limit', '20'], 7),
             ('a search', LEAST_OF_SEARCH, ['search', ROOT / 'docs' / 'tutorial' / 'slot.cp'], 5),
             ('an explanation', LEAST_OF_EXPLANATION, ['explain', 'rules/c4_recursion.cp'], 1)]
 

@@ -102,7 +102,7 @@ fn search_by_calls(program: &Program, options: &Options) -> Result<String, Stopp
 
 /// What the search over single events prints, or the schedule of the first state of a kind.
 fn search_single_events(program: &Program, options: &Options) -> Result<String, Stopped> {
-    let mut search = single_events::Search::new(program, options.limit);
+    let mut search = single_events::Search::new(program, &options.servers, options.limit);
     search.run()?;
     let Some(kind) = &options.schedule else {
         return Ok(search.findings.text());

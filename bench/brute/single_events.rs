@@ -26,6 +26,7 @@ struct Way {
 
 pub struct Search<'p> {
     program: &'p Program,
+    servers: &'p [u32],
     limit: usize,
     seen: ByteSet,
     ways: Vec<Way>,
@@ -75,9 +76,10 @@ fn events(state: &State) -> Vec<u8> {
 }
 
 impl<'p> Search<'p> {
-    pub fn new(program: &'p Program, limit: usize) -> Search<'p> {
+    pub fn new(program: &'p Program, servers: &'p [u32], limit: usize) -> Search<'p> {
         Search {
             program,
+            servers,
             limit,
             seen: ByteSet::default(),
             ways: Vec::new(),
@@ -131,7 +133,7 @@ impl<'p> Search<'p> {
             number as usize,
             self.late_steps,
             state.is_still(),
-            state.has_ended(),
+            state.has_ended(self.servers),
             state.has_fault(),
         );
         for mover in events(&state) {

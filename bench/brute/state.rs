@@ -195,10 +195,14 @@ impl State {
         !self.kernel.has_fresh() && !self.numbers().any(|number| self.is_ready(number))
     }
 
-    pub fn has_ended(&self) -> bool {
-        self.processes
-            .iter()
-            .all(|process| process.activity == Activity::Ended)
+    /// Whether each process has ended, or is a server and is delayed.
+    pub fn has_ended(&self, servers: &[u32]) -> bool {
+        self.numbers().all(|number| {
+            let index = number as usize - 1;
+            let is_delayed = matches!(self.kernel.stages[index], Stage::Delayed(_));
+            self.processes[index].activity == Activity::Ended
+                || is_delayed && servers.contains(&number)
+        })
     }
 
     pub fn has_fault(&self) -> bool {

@@ -140,6 +140,13 @@ pub(crate) const IN: Argument = Argument {
     without: &[],
 };
 
+pub(crate) const SERVERS: Argument = Argument {
+    name: "servers",
+    form: Form::Value("NAME,.."),
+    about: "the processes that may wait in a queue forever (default none)",
+    without: &[],
+};
+
 pub(crate) const CHAINS: Argument = Argument {
     name: "chains",
     form: Form::Flag,
@@ -212,9 +219,16 @@ pub(crate) const ALL: Argument = Argument {
 
 pub(crate) const OUT: Argument = Argument {
     name: "out",
-    form: Form::Value("NAME"),
-    about: "writes what the process NAME has written, as raw bytes, in place of the verdict",
+    form: Form::Value("NAME,.."),
+    about: "writes what these processes, or all, have displayed, in place of the verdict",
     without: &["dot", "json"],
+};
+
+pub(crate) const SHOW: Argument = Argument {
+    name: "show",
+    form: Form::Repeated("NAME,.."),
+    about: "adds the values of variables such as m.balance, or of all that a monitor or process has",
+    without: &["out"],
 };
 
 pub(crate) const OUTCOME_DOT: Argument = Argument {

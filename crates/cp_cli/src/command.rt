@@ -70,11 +70,13 @@ pub enum Command<'a> {
         input: Inputs<'a>,
         progress: bool,
     },
-    /// `outcome FILE`: runs the text of a file until nothing can move. The form names a process.
+    /// `outcome FILE`: runs the text of a file until nothing can move, and shows what became of it.
+    /// The processes with the names in `servers` may wait forever.
     Outcome {
         file: &'a str,
         how: UntilStill,
-        form: OutcomeForm<&'a str>,
+        servers: Vec<&'a str>,
+        shown: Shown<'a>,
         input: Inputs<'a>,
         progress: bool,
     },
@@ -87,11 +89,13 @@ pub enum Command<'a> {
         input: Inputs<'a>,
         progress: bool,
     },
-    /// `search FILE`: searches all schedules of the text of a file. Those that it finds are written
-    /// to files whose names begin with `save`, if that is given.
+    /// `search FILE`: searches all schedules of the text of a file. The processes with the names in
+    /// `servers` may wait forever. The schedules that it finds are written to files whose names begin
+    /// with `save`, if that is given.
     Search {
         file: &'a str,
         how: Searching,
+        servers: Vec<&'a str>,
         save: Option<&'a str>,
         input: Inputs<'a>,
         progress: bool,
@@ -103,6 +107,16 @@ pub enum Command<'a> {
         replay: Replay,
         input: Inputs<'a>,
     },
+}
+
+/// What is shown of an outcome.
+#[derive(Drop)]
+pub struct Shown<'a> {
+    pub form: OutcomeForm<()>,
+    /// `--out NAME,..`: the processes whose transcripts are written.
+    pub processes: Vec<&'a str>,
+    /// `--show NAME,..`: the variables whose values are added.
+    pub variables: Vec<&'a str>,
 }
 
 /// Where the inputs of the processes come from.

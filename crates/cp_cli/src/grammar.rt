@@ -3,8 +3,8 @@
 use crate::arguments::{
     ALL, Argument, CHAINS, CHUNK, COLOR, EXPLAIN_DOT, EXPLAIN_JSON, FROM, IN, INPUT, LIMIT, MEMORY,
     ONLY, ORDER, OUT, OUTCOME_DOT, OUTCOME_JSON, PROGRESS, ROUNDS, SAVE, SEARCH_JSON,
-    SEARCH_PROGRESS, SHELL, STATES, SVG, TEXT, TEXT_OR_RULE, TICK, TIMELINE, TO, TRACE_JSON, TURN,
-    WAVE, WORKERS,
+    SEARCH_PROGRESS, SERVERS, SHELL, SHOW, STATES, SVG, TEXT, TEXT_OR_RULE, TICK, TIMELINE, TO,
+    TRACE_JSON, TURN, WAVE, WORKERS,
 };
 use crate::command::VERSION;
 use clap::Arg;
@@ -65,7 +65,9 @@ const OUTCOME: Words = Words {
         TICK,
         INPUT,
         IN,
+        SERVERS,
         OUT,
+        SHOW,
         OUTCOME_DOT,
         OUTCOME_JSON,
         PROGRESS,
@@ -97,6 +99,7 @@ const SEARCH: Words = Words {
         MEMORY,
         INPUT,
         IN,
+        SERVERS,
         SAVE,
         SEARCH_JSON,
         SEARCH_PROGRESS,

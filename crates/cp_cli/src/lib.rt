@@ -2,7 +2,7 @@
 //!
 //! - `command`: what cpm can be asked to do.
 //! - `reading`: parses the words by the `grammar`, and takes the command from what was parsed, with
-//!   the values of its `options`, which are `numbers` or `defaults`, and its `inputs`.
+//!   the values of its `options`, which are `numbers` or `defaults`, its `inputs` and its `servers`.
 //! - `arguments`: which arguments the grammar has, and what help says about them.
 //! - `completions`: scripts by which shells complete words, from the same grammar.
 //! - `misuse`: what is wrong with words that the grammar accepts. `unknown`: what is meant by words
@@ -21,6 +21,7 @@ mod misuse;
 pub mod numbers;
 mod options;
 pub mod reading;
+mod servers;
 mod unknown;
 
 pub use cp_base_config::explaining::{Explaining, Extent, Form};

@@ -46,8 +46,9 @@ pub(crate) enum Misuse<'a> {
     ManyNamed {
         most: usize,
     },
-    #[error("--only takes names with commas between them, not {word}")]
+    #[error("--{option} takes names with commas between them, not {word}")]
     NoNames {
+        option: &'static str,
         word: &'a str,
     },
     #[error("--color takes auto, always or never, not {word}")]
@@ -57,6 +58,18 @@ pub(crate) enum Misuse<'a> {
     #[error("there are completions for bash, zsh and fish, not for {word}")]
     NoShell {
         word: &'a str,
+    },
+    #[error("--servers takes names with commas between them, not {word}")]
+    NoServers {
+        word: &'a str,
+    },
+    #[error("--servers names {name} twice")]
+    ServerTwice {
+        name: &'a str,
+    },
+    #[error("--servers names more than {most} processes")]
+    ManyServers {
+        most: usize,
     },
     #[error("--from is above --to")]
     FromAboveTo,

@@ -4,6 +4,7 @@ ghost use Rattle.std.specs.Prelude.{◌≡◌, ◌≤◌, IfOk};
 ghost use Rattle.cp_base_config.specs.Plans.{AreInRange, IsTick, IsTurn};
 ghost use Rattle.cp_cli.specs.Commands.{Has, HasReplay};
 
+use crate::command::Shown;
 use crate::defaults;
 use crate::misuse::Misuse;
 use crate::numbers::{MAX_OPTION_NUMBER, MAX_ROUNDS, number};
@@ -118,14 +119,26 @@ pub(crate) fn read_outcome<'a>(matches: &ArgMatches<'a>) -> Result<UntilStill, M
     Ok(UntilStill { limit, plan, tick })
 }
 
-/// The form of an outcome that the options choose. The grammar accepts only one of them.
-pub(crate) fn read_form<'a>(matches: &ArgMatches<'a>) -> OutcomeForm<&'a str> {
+// The form of an outcome that the options choose. The grammar accepts only one of them.
+fn read_form(matches: &ArgMatches<'_>) -> OutcomeForm<()> {
     match matches.get_str("out") {
-        Some(process) => OutcomeForm::Transcript(process),
+        Some(_names) => OutcomeForm::Transcript(()),
         None if matches.get_flag("dot") => OutcomeForm::Dot,
         None if matches.get_flag("json") => OutcomeForm::Json,
         None => OutcomeForm::Verdict,
     }
+}
+
+/// What is shown of an outcome.
+pub(crate) fn read_shown<'a>(
+    alloc: Global,
+    matches: &ArgMatches<'a>,
+) -> Result<Shown<'a>, Misuse<'a>> {
+    Ok(Shown {
+        form: read_form(matches),
+        processes: read_names(alloc, matches, "out")?,
+        variables: read_show(alloc, matches)?,
+    })
 }
 
 // The form of a trace that the options choose. The grammar accepts only one of them.
@@ -161,20 +174,49 @@ pub(crate) fn read_trace<'a>(matches: &ArgMatches<'a>) -> Result<Tracing, Misuse
     })
 }
 
-/// The names that `--only` gives, with commas between them.
+// Adds the names in a word of an option, with commas between them.
+fn add_names<'a>(
+    option: &'static str,
+    word: &'a str,
+    names: &mut Vec<&'a str>,
+) -> Result<(), Misuse<'a>> {
+    for name in word.split(',') {
+        if name.is_empty() {
+            return Err(Misuse::NoNames { option, word });
+        }
+        names.push(name)?;
+    }
+    Ok(())
+}
+
+// The names that an option gives.
+fn read_names<'a>(
+    alloc: Global,
+    matches: &ArgMatches<'a>,
+    option: &'static str,
+) -> Result<Vec<&'a str>, Misuse<'a>> {
+    let mut names = Vec::new(alloc);
+    if let Some(word) = matches.get_str(option) {
+        add_names(option, word, &mut names)?;
+    }
+    Ok(names)
+}
+
+/// The names that `--only` gives.
 pub(crate) fn read_only<'a>(
     alloc: Global,
     matches: &ArgMatches<'a>,
 ) -> Result<Vec<&'a str>, Misuse<'a>> {
+    read_names(alloc, matches, "only")
+}
+
+// The names that `--show` gives, each time that it is given.
+fn read_show<'a>(alloc: Global, matches: &ArgMatches<'a>) -> Result<Vec<&'a str>, Misuse<'a>> {
     let mut names = Vec::new(alloc);
-    let Some(word) = matches.get_str("only") else {
-        return Ok(names);
-    };
-    for name in word.split(',') {
-        if name.is_empty() {
-            return Err(Misuse::NoNames { word });
+    if let Some(words) = matches.get_strs("show") {
+        for word in words {
+            add_names("show", *word, &mut names)?;
         }
-        names.push(name)?;
     }
     Ok(names)
 }

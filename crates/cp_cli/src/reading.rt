@@ -11,9 +11,10 @@ use crate::inputs::read_inputs;
 use crate::misuse::Misuse;
 use crate::numbers::MAX_ROUNDS;
 use crate::options::{
-    count, read_colours, read_form, read_only, read_outcome, read_replay, read_run, read_search,
+    count, read_colours, read_only, read_outcome, read_replay, read_run, read_search, read_shown,
     read_trace, run_of,
 };
+use crate::servers::read_servers;
 use crate::unknown::meant_by;
 use clap::ArgMatches;
 use clap::error::ErrorKind;
@@ -84,7 +85,8 @@ fn outcome<'a>(
     Ok(Command::Outcome {
         file,
         how: read_outcome(matches)?,
-        form: read_form(matches),
+        servers: read_servers(alloc, matches)?,
+        shown: read_shown(alloc, matches)?,
         input: read_inputs(alloc, matches)?.beside(&[file])?,
         progress: matches.get_flag("progress"),
     })
@@ -118,6 +120,7 @@ fn search<'a>(
     Ok(Command::Search {
         file,
         how: read_search(matches)?,
+        servers: read_servers(alloc, matches)?,
         save: matches.get_str("save"),
         input: read_inputs(alloc, matches)?.beside(&[file])?,
         progress: matches.get_flag("progress"),

@@ -1,20 +1,26 @@
-//! The processes and monitors of a text by name: whether there are such, the numbers of processes,
-//! and their joined input.
+//! The processes, monitors and variables of a text by name: whether there are such, the numbers of
+//! processes, and their joined input.
 
 ghost use Rattle.std.specs.Prelude.{◌≡◌};
 ghost use Rattle.cp_frontend.specs.declared.refusal.Refusal.TheVariants as refusal;
 ghost use Rattle.cp_cli_inputs.specs.declared.named.InputError.TheVariants as error;
 
 use cp_check::checking::tables_of;
+use cp_compile_symbols::{Tables, small_number};
 use cp_frontend::checking::{AcceptedTree, accept};
 use cp_frontend::cutting::MAX_INPUT_BYTES;
 use cp_frontend::joining::{join, misplaced};
 use cp_frontend::reading::{ReadError, read_text};
 use cp_frontend::refusal::Refusal;
 use cp_inspect::component_table::ComponentTable;
+use cp_inspect::leaves::{initial_leaves, leaves};
+use cp_outcome_variables::named::{Named, row_of};
 use std::alloc::{AllocError, AllocFailed, Global};
 use std::io::Read;
 use thiserror::Error;
+
+// The name of all processes together.
+const ALL: &str = "all";
 
 /// The input of the process with this name, and the name of the file that it is read from.
 #[derive(Drop)]
@@ -139,6 +145,42 @@ pub fn process_number<'a>(
     }
 }
 
+// The numbers of all processes.
+fn all_processes(
+    alloc: Global,
+    component_table: &ComponentTable<'_>,
+) -> Result<Vec<u32>, AllocError> {
+    // The table has no initial process.
+    let count = small_number(component_table.processes.len().saturating_add(1))?;
+    (1..=count).collect(alloc)
+}
+
+/// The numbers of the processes with these names, in any letter case. The name `all` means all
+/// processes, unless a process has that name.
+///
+/// # Errors
+///
+/// Those of `process_number`, for the first name.
+pub fn process_numbers<'a>(
+    alloc: Global,
+    text: &[u8],
+    names: &[&'a str],
+) -> Result<Vec<u32>, InputError<'a>> {
+    let accepted = accept(alloc, text)?;
+    let component_table = component_table_of(alloc, &accepted)?;
+    let mut numbers = Vec::new(alloc);
+    for name in names {
+        match component_table.process(name.as_bytes())? {
+            Some(number) => numbers.push(number)?,
+            None if name.eq_ignore_ascii_case(ALL) => {
+                numbers.extend_from_slice(&all_processes(alloc, &component_table)?)?;
+            }
+            None => return Err(InputError::NoProcess { process: *name }),
+        }
+    }
+    Ok(numbers)
+}
+
 /// The first of these names that no process and no monitor of a text has, in any letter
 /// case, if there is one.
 ///
@@ -154,6 +196,45 @@ pub fn unknown_name<'a>(
     let component_table = component_table_of(alloc, &accepted)?;
     for name in names {
         if component_table.owner(name.as_bytes())?.is_none() {
+            return Ok(Some(*name));
+        }
+    }
+    Ok(None)
+}
+
+// Whether a variable has this name, or a part of one, or a process or a monitor.
+fn is_known(
+    alloc: Global,
+    tables: &Tables<'_>,
+    component_table: &ComponentTable<'_>,
+    name: &str,
+) -> Result<bool, AllocError> {
+    let Some(named) = Named::of(component_table, name)? else {
+        return Ok(false);
+    };
+    let leaves = match row_of(component_table, named.owner) {
+        Some(row) => leaves(alloc, tables, row)?,
+        None => initial_leaves(alloc, tables)?,
+    };
+    Ok(named.is_whole() || leaves.iter().any(|leaf| named.has(leaf)))
+}
+
+/// The first of these names that names no variable of a text, as `m.balance` does, and no process and
+/// no monitor, in any letter case, if there is one.
+///
+/// # Errors
+///
+/// S, Y or C if the text isn't accepted, and M if memory runs out.
+pub fn unknown_variable<'a>(
+    alloc: Global,
+    text: &[u8],
+    names: &[&'a str],
+) -> Result<Option<&'a str>, Refusal> {
+    let accepted = accept(alloc, text)?;
+    let tables = tables_of(alloc, accepted.key, &accepted.tree)?;
+    let component_table = ComponentTable::of(alloc, &tables)?;
+    for name in names {
+        if !is_known(alloc, &tables, &component_table, name)? {
             return Ok(Some(*name));
         }
     }

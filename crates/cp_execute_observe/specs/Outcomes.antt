@@ -1,11 +1,12 @@
 -- What the outcome of a run promises about the bytes that it reads and writes.
 use Rattle.std.specs.Prelude.{◌≡◌, ◌<◌, ◌≤◌, ℕ, Bool, false, true, List, Ok, Option, Some}
+use Rattle.std.specs.Borrow.{Bor}
 use Rattle.std.specs.Io.KnownBytes.{Appends}
 use Rattle.cp_model.specs.Syntax as s
 use Rattle.cp_model.specs.Rounds.{run}
 use Rattle.cp_model.specs.Start.{start}
 use Rattle.cp_model.specs.States.{State}
-use Rattle.cp_outcome.specs.Verdicts.{verdict_of}
+use Rattle.cp_outcome.specs.Verdicts.{IsEndOf, verdict_of}
 use Rattle.cp_outcome.specs.declared.verdict.Verdict.{Verdict}
 use Rattle.cp_law_stillness.specs.Stillness.{is_still}
 use Rattle.cp_base_config.specs.declared.outcome.OutcomeForm.{OutcomeForm}
@@ -24,27 +25,29 @@ abbrev pub is_still_after : UntilStill → s.Tree → List ℕ → ℕ → Bool
 is_still_after how t input n = is_still (setup_of t input how.tick.rounds) (state_after how t input n)
 
 -- After so many rounds nothing can move or the limit is reached, and after no fewer. The verdict is
--- that on the state then, and the bytes report both in the form.
-pub record IsOutcome (how : UntilStill) (form : OutcomeForm ℕ) (t : s.Tree) (input : List ℕ) (v : Verdict) (bytes : List ℕ) : Type 0 where
+-- that on the state then, if servers may wait forever. It is `Ended` exactly if each process has
+-- ended, or is a server and is delayed. The bytes report all this in the form.
+pub record IsOutcome (how : UntilStill) (servers : List ℕ) (form : OutcomeForm (Bor (List ℕ))) (t : s.Tree) (input : List ℕ) (v : Verdict) (bytes : List ℕ) : Type 0 where
   pub rounds : ℕ
   pub most : rounds ≤ how.limit
   pub still : rounds < how.limit → is_still_after how t input rounds ≡ true
   pub first : (k : ℕ) → k < rounds → is_still_after how t input k ≡ false
-  pub verdict : verdict_of (setup_of t input how.tick.rounds) (state_after how t input rounds) ≡ v
+  pub verdict : verdict_of servers (setup_of t input how.tick.rounds) (state_after how t input rounds) ≡ v
+  pub ended : IsEndOf servers (setup_of t input how.tick.rounds) (state_after how t input rounds) v
   pub reported : Reports form (setup_of t input how.tick.rounds) (state_after how t input rounds) v rounds bytes
 
 -- If the text is known, then it is accepted. If the input is known too, it isn't refused, and
 -- `Writes` holds of an outcome with this verdict.
-abbrev pub Due : UntilStill → OutcomeForm ℕ → Verdict → Option (List ℕ) → Option (List ℕ) → (List ℕ → Type 0) → Type 0
-Due how form v text input Writes =
+abbrev pub Due : UntilStill → List ℕ → OutcomeForm (Bor (List ℕ)) → Verdict → Option (List ℕ) → Option (List ℕ) → (List ℕ → Type 0) → Type 0
+Due how servers form v text input Writes =
     (xs : List ℕ) → text ≡ Some xs
     → (t : s.Tree) × IsAccepted xs t
-    × ((ys : List ℕ) → input ≡ Some ys → (judge_input ys ≡ Ok tt) × (bytes : List ℕ) × IsOutcome how form t ys v bytes × Writes bytes)
+    × ((ys : List ℕ) → input ≡ Some ys → (judge_input ys ≡ Ok tt) × (bytes : List ℕ) × IsOutcome how servers form t ys v bytes × Writes bytes)
 
 -- What was written is an outcome with this verdict.
-abbrev pub ReportsOutcome : UntilStill → OutcomeForm ℕ → Verdict → Option (List ℕ) → Option (List ℕ) → Option (List ℕ) → Option (List ℕ) → Type 0
-ReportsOutcome how form v text input old new = Due how form v text input (Appends old new)
+abbrev pub ReportsOutcome : UntilStill → List ℕ → OutcomeForm (Bor (List ℕ)) → Verdict → Option (List ℕ) → Option (List ℕ) → Option (List ℕ) → Option (List ℕ) → Type 0
+ReportsOutcome how servers form v text input old new = Due how servers form v text input (Appends old new)
 
 -- After a write that failed: a prefix of an outcome was written.
-abbrev pub BeginsOutcome : UntilStill → OutcomeForm ℕ → Option (List ℕ) → Option (List ℕ) → Option (List ℕ) → Option (List ℕ) → Type 0
-BeginsOutcome how form text input old new = (v : Verdict) × Due how form v text input (AppendsSome old new)
+abbrev pub BeginsOutcome : UntilStill → List ℕ → OutcomeForm (Bor (List ℕ)) → Option (List ℕ) → Option (List ℕ) → Option (List ℕ) → Option (List ℕ) → Type 0
+BeginsOutcome how servers form text input old new = (v : Verdict) × Due how servers form v text input (AppendsSome old new)

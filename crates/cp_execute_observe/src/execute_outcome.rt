@@ -21,7 +21,8 @@ use std::sync::Wait;
 use std::thread::Threads;
 
 /// Runs the text of one reader on the input of another until nothing can move, writes the outcome
-/// in its form, and returns the verdict.
+/// in its form, with the variables that have names in `show`, and returns the verdict. The servers,
+/// by their numbers, may wait forever.
 ///
 /// # Errors
 ///
@@ -35,13 +36,15 @@ pub fn execute_outcome<H: Threads + Wait + Sync, R: Read, S: Read, W: Write, G: 
     text: &mut R,
     input: &mut S,
     how: &UntilStill,
-    form: OutcomeForm<u32>,
+    servers: &[u32],
+    form: OutcomeForm<&[u32]>,
+    show: &[&str],
     gate: &G,
     out: &mut W,
 ) -> Result<Verdict, Refusal>
     ensures done { IfOk result
-        (λ verdict. ReportsOutcome how.now form verdict (R.remaining text.old) (S.remaining input.old)
-        (W.contents out.old) (W.contents out.new)) }
+        (λ verdict. ReportsOutcome how.now servers.now form.entry verdict (R.remaining text.old)
+        (S.remaining input.old) (W.contents out.old) (W.contents out.new)) }
     ensures unwritten { IfErr result
         (λ e. (e ≡ refusal.Write → ⊥) → Keeps (W.contents out.old) (W.contents out.new)) }
     ensures refused { IfErr result
@@ -49,8 +52,8 @@ pub fn execute_outcome<H: Threads + Wait + Sync, R: Read, S: Read, W: Write, G: 
         → IfSome (R.remaining text.old) (λ xs. RefusesRun xs (S.remaining input.old) e)) }
     ensures beginning { IfErr result
         (λ e. e ≡ refusal.Write
-        → BeginsOutcome how.now form (R.remaining text.old) (S.remaining input.old)
-        (W.contents out.old) (W.contents out.new)) }
+        → BeginsOutcome how.now servers.now form.entry (R.remaining text.old)
+        (S.remaining input.old) (W.contents out.old) (W.contents out.new)) }
     ensures faults { IfErr result
         (IsFaultOrOfInput (R.remaining text.old) (S.remaining input.old)) }
     ensures text { TakesText result (R.remaining text.old) (R.remaining text.new) }
@@ -58,7 +61,7 @@ pub fn execute_outcome<H: Threads + Wait + Sync, R: Read, S: Read, W: Write, G: 
 {
     let accepted = read_accepted_text(alloc, text)?;
     let bytes = read_input(alloc, input)?;
-    let outcome = outcome_after_run(rt, alloc, &accepted, &bytes, how, form, gate)?;
+    let outcome = outcome_after_run(rt, alloc, &accepted, &bytes, how, servers, form, show, gate)?;
     write_result(out, &outcome.bytes)?;
     Ok(outcome.verdict)
 }

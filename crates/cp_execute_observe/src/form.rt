@@ -9,26 +9,35 @@ use crate::snapshot::snapshot_of;
 use cp_base_config::outcome::OutcomeForm;
 use cp_base_config::turn::Turn;
 use cp_frontend::sources::Text;
+use cp_inspect::component_table::ComponentTable;
 use cp_outcome::outcome::{outcome, word_of};
-use cp_outcome::transcript::transcript;
+use cp_outcome::several::transcripts;
 use cp_outcome::verdict::Verdict;
+use cp_outcome_reasons::loops::Loop;
 use cp_outcome_reasons::names::Source;
 use cp_outcome_reasons::object::object;
 use cp_outcome_reasons::reasons::reasons;
+use cp_outcome_reasons::servers::without_servers;
 use cp_outcome_reasons::waits::waits;
+use cp_outcome_variables::variables::{Variable, Variables, variables_of};
 use cp_rounds::machine::Machine;
 use std::alloc::{AllocError, Global};
 
-// The report of a machine with the verdict on it and the reasons for that.
+// The report of a machine with the verdict on it and the reasons for that, a state that came again,
+// and these variables. It ends with the servers that would have to be named, if there are none, for
+// the verdict to be `ended`.
 fn report_with_reasons(
     alloc: Global,
     source: Source<'_, '_>,
     machine: &Machine,
     verdict: Verdict,
+    found: Option<&Loop>,
+    shown: &[Variable],
 ) -> Result<Vec<u8>, AllocError>
     ensures { IfOk result (λ bytes. IsOutcomeOf forms.Verdict machine.now verdict bytes.items) }
 {
-    let reasons = reasons(alloc, source)?;
+    let mut reasons = reasons(alloc, source, found, shown)?;
+    reasons.extend_from_slice(&without_servers(alloc, source)?)?;
     outcome(alloc, machine, verdict, &reasons)
 }
 
@@ -38,6 +47,8 @@ fn object_of(
     source: Source<'_, '_>,
     verdict: Verdict,
     turn: Turn,
+    found: Option<&Loop>,
+    variables: &Variables,
 ) -> Result<Vec<u8>, AllocError>
     ensures { IfOk result (λ bytes. IsJsonLine bytes.items) }
 {
@@ -46,10 +57,34 @@ fn object_of(
         source,
         str::from_utf8(word_of(verdict)).unwrap_or(""),
         turn.steps(),
+        found,
+        variables,
     )
 }
 
-/// What is written of a machine that runs the program of a text by turns, and of the verdict on it.
+// The variables of a machine that runs the program of a text: those with these names, and for an
+// object those of all monitors.
+fn variables(
+    alloc: Global,
+    text: &Text,
+    machine: &Machine,
+    form: OutcomeForm<&[u32]>,
+    show: &[&str],
+) -> Result<Variables, AllocError> {
+    variables_of(
+        alloc,
+        text.key,
+        ComponentTable::of(alloc, machine.tables())?,
+        &text.tree,
+        machine,
+        show,
+        matches!(form, OutcomeForm::Json),
+    )
+}
+
+/// What is written of a machine that runs the program of a text by turns, and of the verdict on it,
+/// with a state that came again, and the variables that have names in `show`.
+/// The servers, by their numbers, may wait forever.
 ///
 /// # Errors
 ///
@@ -58,11 +93,14 @@ pub(crate) fn reported<'t>(
     alloc: Global,
     text: &'t Text,
     machine: &Machine<'_, 't>,
+    servers: &[u32],
     verdict: Verdict,
     turn: Turn,
-    form: OutcomeForm<u32>,
+    form: OutcomeForm<&[u32]>,
+    found: Option<&Loop>,
+    show: &[&str],
 ) -> Result<Vec<u8>, AllocError>
-    ensures { IfOk result (λ bytes. IsOutcomeOf form machine.now verdict bytes.items) }
+    ensures { IfOk result (λ bytes. IsOutcomeOf form.entry machine.now verdict bytes.items) }
 {
     let snapshot = snapshot_of(alloc, machine)?;
     let source = Source {
@@ -70,11 +108,15 @@ pub(crate) fn reported<'t>(
         tree: &text.tree,
         tables: machine.tables(),
         snapshot: &snapshot,
+        servers,
     };
+    let variables = variables(alloc, text, machine, form, show)?;
     match form {
-        OutcomeForm::Verdict => report_with_reasons(alloc, source, machine, verdict),
-        OutcomeForm::Transcript(process) => transcript(alloc, machine, process),
-        OutcomeForm::Dot => waits(alloc, source),
-        OutcomeForm::Json => object_of(alloc, source, verdict, turn),
+        OutcomeForm::Verdict => {
+            report_with_reasons(alloc, source, machine, verdict, found, &variables.shown)
+        }
+        OutcomeForm::Transcript(processes) => transcripts(alloc, machine, processes),
+        OutcomeForm::Dot => waits(alloc, source, &variables.shown),
+        OutcomeForm::Json => object_of(alloc, source, verdict, turn, found, &variables),
     }
 }

@@ -9,6 +9,7 @@ ghost use Rattle.cp_execute_observe.specs.Outcomes.{IsOutcome};
 ghost use Rattle.cp_frontend.specs.declared.refusal.Refusal.TheVariants as refusal;
 
 use crate::form::reported;
+use crate::looping::found_loop;
 use cp_base_config::outcome::{OutcomeForm, UntilStill};
 use cp_check::checking::{CompiledText, compile_accepted};
 use cp_execute_start::starting::machine_at_start;
@@ -29,31 +30,47 @@ pub(crate) struct Outcome {
     pub(crate) bytes: Vec<u8>,
 }
 
-// Runs a machine at its start until nothing can move, and returns the outcome in a form.
+// Runs a machine at its start until nothing can move, and returns the outcome in a form, with the
+// variables that have names in `show`.
 fn outcome_of<'t, H: Threads + Wait + Sync, G: TurnGate>(
     rt: &H,
     alloc: Global,
     text: &'t Text,
     mut machine: Machine<'_, 't>,
     how: &UntilStill,
-    form: OutcomeForm<u32>,
+    servers: &[u32],
+    form: OutcomeForm<&[u32]>,
+    show: &[&str],
     gate: &G,
 ) -> Result<Outcome, Refusal>
     requires first { machine.rounds ≡ 0 }
     ensures outcome { IfOk result (λ outcome. (t : s.Tree) (input : List ℕ)
         → IsAtStart (setup_of t input how.now.tick.rounds) machine.entry
-        → IsOutcome how.now form t input outcome.verdict outcome.bytes.items) }
+        → IsOutcome how.now servers.now form.entry t input outcome.verdict outcome.bytes.items) }
     ensures memory { IfErr result (λ e. e ≡ refusal.Memory) }
 {
     let Ok(_rounds) = run_until_still(rt, &mut machine, how.limit, &how.plan, gate) else {
         return Err(Refusal::Memory);
     };
-    let verdict = verdict_on(&machine);
-    let bytes = reported(alloc, text, &machine, verdict, how.plan.turn, form)?;
+    let verdict = verdict_on(&machine, servers);
+    let found = found_loop(rt, alloc, &mut machine, how, verdict, form, gate)?;
+    let turn = how.plan.turn;
+    let bytes = reported(
+        alloc,
+        text,
+        &machine,
+        servers,
+        verdict,
+        turn,
+        form,
+        found.as_ref(),
+        show,
+    )?;
     Ok(Outcome { verdict, bytes })
 }
 
-/// Runs the program of an accepted text until nothing can move, and returns the outcome in a form.
+/// Runs the program of an accepted text until nothing can move, and returns the outcome in a form, with
+/// the variables that have names in `show`. The servers, by their numbers, may wait forever.
 ///
 /// # Errors
 ///
@@ -64,16 +81,18 @@ pub(crate) fn outcome_after_run<H: Threads + Wait + Sync, G: TurnGate>(
     text: &Text,
     input: &[u8],
     how: &UntilStill,
-    form: OutcomeForm<u32>,
+    servers: &[u32],
+    form: OutcomeForm<&[u32]>,
+    show: &[&str],
     gate: &G,
 ) -> Result<Outcome, Refusal>
     requires accepted { Accepted (view.tree text.now.tree) }
-    ensures outcome { IfOk result (λ outcome. IsOutcome how.now form
+    ensures outcome { IfOk result (λ outcome. IsOutcome how.now servers.now form.entry
         (view.tree text.now.tree) input.now outcome.verdict outcome.bytes.items) }
     ensures memory { IfErr result (λ e. e ≡ refusal.Memory) }
 {
     let compiled = compile_accepted(alloc, text.key, &text.tree)?;
     let CompiledText { program, tables } = compiled;
     let machine = machine_at_start(alloc, program, &tables, input, how.tick)?;
-    outcome_of(rt, alloc, text, machine, how, form, gate)
+    outcome_of(rt, alloc, text, machine, how, servers, form, show, gate)
 }

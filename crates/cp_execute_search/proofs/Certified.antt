@@ -14,14 +14,14 @@ use Rattle.cp_execute_search.specs.Certificates.{LeadsIfSome, LeadsTo, ReachesIf
 use Rattle.cp_execute_search.specs.declared.kind.Kind.{Kind}
 
 -- A machine that has made the rounds shows what they lead to.
-pub kind_reached : (k : Kind) (rounds : List (List Event)) (old new : Machine) → MakesReplays 1 rounds old new → ShowsKind k new → ReachesKind k rounds old
-kind_reached k rounds old new made shows = record { each = λ setup z I. shows.each setup (replay setup z (timed 1 rounds)) (made setup z I) }
+pub kind_reached : (k : Kind) (servers : List ℕ) (rounds : List (List Event)) (old new : Machine) → MakesReplays 1 rounds old new → ShowsKind k servers new → ReachesKind k servers rounds old
+kind_reached k servers rounds old new made shows = record { each = λ setup z I. shows.each setup (replay setup z (timed 1 rounds)) (made setup z I) }
 
 -- So do rounds that were read from an order, on a machine at its start.
-pub order_leads : (k : Kind) (t : s.Tree) (input order : List ℕ) (n : ℕ) (rounds : List (List Event)) (m : Machine) (o : Option StatusSnapshot)
-    → n ≡ processes_in t → judged n order ≡ Orders rounds → IsAtStart (setup_of t input 1) m → ReachesIfSome k rounds m o → LeadsIfSome k t input order o
-order_leads k t input order n rounds m None count read starts reached = tt
-order_leads k t input order n rounds m (Some snapshot) count read starts reached = record {
+pub order_leads : (k : Kind) (servers : List ℕ) (t : s.Tree) (input order : List ℕ) (n : ℕ) (rounds : List (List Event)) (m : Machine) (o : Option StatusSnapshot)
+    → n ≡ processes_in t → judged n order ≡ Orders rounds → IsAtStart (setup_of t input 1) m → ReachesIfSome k servers rounds m o → LeadsIfSome k servers t input order o
+order_leads k servers t input order n rounds m None count read starts reached = tt
+order_leads k servers t input order n rounds m (Some snapshot) count read starts reached = record {
   rounds = rounds;
   read = subst (λ c. judge_order_of c order ≡ Ok rounds) count (ap rounds_reported read);
   reached = reached.each (setup_of t input 1) (start (setup_of t input 1)) starts;

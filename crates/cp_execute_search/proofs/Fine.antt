@@ -24,10 +24,10 @@ input_is input n all parts (suc i) first last =
     let place : suc i - 1 ≡ i = Prim.omega arith in
     ap (λ k. bytes_or_none (slice_get all k)) place ∙ (ap bytes_or_none found.1 ∙ parts.each i found.0 found.1)
 
-pub fine_in_text : (program : Program) (t : s.Tree) (input : List ℕ) (all : List Bytes)
+pub fine_in_text : (servers : List ℕ) (program : Program) (t : s.Tree) (input : List ℕ) (all : List Bytes)
     → IsProgramOf t program → AreParts input (length (view.program program).processes) all
-    → NothingIsStuck (view.program program) (input_of all) → IsFine t input
-fine_in_text program t input all is parts nothing = record {
+    → NothingIsStuck servers (view.program program) (input_of all) → IsFine servers t input
+fine_in_text servers program t input all is parts nothing = record {
   each = λ tick.
       let setup = setup_of t input tick in
       let represents : IsProgramFor (view.program program) setup = is setup refl in

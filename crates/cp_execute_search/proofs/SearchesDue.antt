@@ -9,13 +9,13 @@ use Rattle.cp_frontend.proofs.TextRefusals.{of_known}
 use Rattle.cp_execute_search.specs.Searches.{Due, IsSearchOf, IsWritten}
 use Rattle.cp_execute_search.specs.declared.verdict.SearchVerdict.{SearchVerdict}
 
-pub search_due : (form : SearchForm) (v : SearchVerdict) (found : Findings) (text input : Option (List ℕ)) (t : s.Tree) (bytes page : List ℕ) (Writes : List ℕ → Type 0)
-    → IfSome text (λ xs. IsAccepted xs t) → IfSome input (λ ys. bytes ≡ ys) → judge_input bytes ≡ Ok tt → IsSearchOf t bytes v found → IsWritten form page → Writes page
-    → Due form v found text input Writes
-search_due form v found text input t bytes page Writes accepted same fit made formed written xs is =
+pub search_due : (servers : List ℕ) (form : SearchForm) (v : SearchVerdict) (found : Findings) (text input : Option (List ℕ)) (t : s.Tree) (bytes page : List ℕ) (Writes : List ℕ → Type 0)
+    → IfSome text (λ xs. IsAccepted xs t) → IfSome input (λ ys. bytes ≡ ys) → judge_input bytes ≡ Ok tt → IsSearchOf servers t bytes v found → IsWritten form page → Writes page
+    → Due servers form v found text input Writes
+search_due servers form v found text input t bytes page Writes accepted same fit made formed written xs is =
     (t, of_known (λ zs. IsAccepted zs t) text xs accepted is, of_input)
   where
-    of_input : (ys : List ℕ) → input ≡ Some ys → (judge_input ys ≡ Ok tt) × IsSearchOf t ys v found × (bs : List ℕ) × IsWritten form bs × Writes bs
+    of_input : (ys : List ℕ) → input ≡ Some ys → (judge_input ys ≡ Ok tt) × IsSearchOf servers t ys v found × (bs : List ℕ) × IsWritten form bs × Writes bs
     of_input ys given =
         let known = of_known (λ (bs : List ℕ). bytes ≡ bs) input ys same given in
-        (subst (λ (bs : List ℕ). judge_input bs ≡ Ok tt) known fit, subst (λ (bs : List ℕ). IsSearchOf t bs v found) known made, page, formed, written)
+        (subst (λ (bs : List ℕ). judge_input bs ≡ Ok tt) known fit, subst (λ (bs : List ℕ). IsSearchOf servers t bs v found) known made, page, formed, written)

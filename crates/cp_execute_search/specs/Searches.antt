@@ -2,7 +2,7 @@
 use Rattle.std.specs.Prelude.{List, None, Ok, Option, Some, ℕ, ◌≡◌}
 use Rattle.std.specs.Io.KnownBytes.{Appends}
 use Rattle.cp_model.specs.Syntax as s
-use Rattle.cp_law_exploring.specs.Laws.{NoneIsStuck}
+use Rattle.cp_law_servers.specs.Laws.{NoneIsStuckBut}
 use Rattle.cp_output.specs.Json.{IsJsonLine}
 use Rattle.cp_outcome_schedule.specs.declared.findings.Findings.{Findings}
 use Rattle.cp_outcome_schedule.specs.declared.findings.Finding.TheVariants as finding
@@ -21,9 +21,10 @@ use Rattle.cp_execute_search.specs.declared.verdict.SearchVerdict.{SearchVerdict
 use Rattle.cp_execute_search.specs.declared.verdict.SearchVerdict.TheVariants as verdict
 
 -- By no list of rounds of events of the text's processes, with turns of any lengths and a clock that
--- ticks ever so often, a process faults. In each still state that such rounds lead to, all have ended.
-pub record IsFine (t : s.Tree) (input : List ℕ) : Type 0 where
-  pub each : (tick : ℕ) → NoneIsStuck (setup_of t input tick)
+-- ticks ever so often, a process faults. In each still state that such rounds lead to, each process has
+-- ended, or is a server and is delayed.
+pub record IsFine (servers : List ℕ) (t : s.Tree) (input : List ℕ) : Type 0 where
+  pub each : (tick : ℕ) → NoneIsStuckBut servers (setup_of t input tick)
 
 -- All states were seen, and no schedule was found.
 pub record FoundNothing (found : Findings) : Type 0 where
@@ -32,13 +33,13 @@ pub record FoundNothing (found : Findings) : Type 0 where
   pub fault : found.fault ≡ finding.None
 
 -- What a search of a text with an input has found, and the verdict on it.
-pub record IsSearchOf (t : s.Tree) (input : List ℕ) (v : SearchVerdict) (found : Findings) : Type 0 where
-  pub fine : v ≡ verdict.Fine → IsFine t input
-  pub nothing : FoundNothing found → IsFine t input
+pub record IsSearchOf (servers : List ℕ) (t : s.Tree) (input : List ℕ) (v : SearchVerdict) (found : Findings) : Type 0 where
+  pub fine : v ≡ verdict.Fine → IsFine servers t input
+  pub nothing : FoundNothing found → IsFine servers t input
   pub is_stuck : v ≡ verdict.Stuck → IsShown found.stuck
   pub is_fault : v ≡ verdict.Fault → IsShown found.fault
-  pub stuck : IsCertified kind.Stuck t input found.stuck
-  pub fault : IsCertified kind.Fault t input found.fault
+  pub stuck : IsCertified kind.Stuck servers t input found.stuck
+  pub fault : IsCertified kind.Fault servers t input found.fault
 
 -- ---- While it is made
 
@@ -49,13 +50,13 @@ pub record SawNothing (seen : Seen) : Type 0 where
   pub fault : seen.fault ≡ None
 
 -- If a search saw nothing, each text of which this is the program is fine.
-abbrev pub IsSeen : Program → List ℕ → Seen → Type 0
-IsSeen program input seen = SawNothing seen → (t : s.Tree) → IsProgramOf t program → IsFine t input
+abbrev pub IsSeen : List ℕ → Program → List ℕ → Seen → Type 0
+IsSeen servers program input seen = SawNothing seen → (t : s.Tree) → IsProgramOf t program → IsFine servers t input
 
 -- What was found is certified, and if nothing was, a search saw nothing.
-pub record IsFoundIn (t : s.Tree) (input : List ℕ) (seen : Seen) (found : Findings) : Type 0 where
-  pub stuck : IsCertified kind.Stuck t input found.stuck
-  pub fault : IsCertified kind.Fault t input found.fault
+pub record IsFoundIn (servers : List ℕ) (t : s.Tree) (input : List ℕ) (seen : Seen) (found : Findings) : Type 0 where
+  pub stuck : IsCertified kind.Stuck servers t input found.stuck
+  pub fault : IsCertified kind.Fault servers t input found.fault
   pub nothing : FoundNothing found → SawNothing seen
 
 -- ---- What is written
@@ -66,16 +67,16 @@ IsWritten form.Json bytes = IsJsonLine bytes
 
 -- If the text is known, then it is accepted. If the input is known too, it isn't refused, this is what a
 -- search has found, and `Writes` holds of bytes in the form.
-abbrev pub Due : SearchForm → SearchVerdict → Findings → Option (List ℕ) → Option (List ℕ) → (List ℕ → Type 0) → Type 0
-Due how v found text input Writes =
+abbrev pub Due : List ℕ → SearchForm → SearchVerdict → Findings → Option (List ℕ) → Option (List ℕ) → (List ℕ → Type 0) → Type 0
+Due servers how v found text input Writes =
     (xs : List ℕ) → text ≡ Some xs
     → (t : s.Tree) × IsAccepted xs t
-    × ((ys : List ℕ) → input ≡ Some ys → (judge_input ys ≡ Ok tt) × IsSearchOf t ys v found × (bytes : List ℕ) × IsWritten how bytes × Writes bytes)
+    × ((ys : List ℕ) → input ≡ Some ys → (judge_input ys ≡ Ok tt) × IsSearchOf servers t ys v found × (bytes : List ℕ) × IsWritten how bytes × Writes bytes)
 
 -- What was written is the result of a search.
-abbrev pub ReportsSearch : SearchForm → SearchVerdict → Findings → Option (List ℕ) → Option (List ℕ) → Option (List ℕ) → Option (List ℕ) → Type 0
-ReportsSearch how v found text input old new = Due how v found text input (Appends old new)
+abbrev pub ReportsSearch : List ℕ → SearchForm → SearchVerdict → Findings → Option (List ℕ) → Option (List ℕ) → Option (List ℕ) → Option (List ℕ) → Type 0
+ReportsSearch servers how v found text input old new = Due servers how v found text input (Appends old new)
 
 -- After a write that failed: a prefix of the result of a search was written.
-abbrev pub BeginsSearch : SearchForm → Option (List ℕ) → Option (List ℕ) → Option (List ℕ) → Option (List ℕ) → Type 0
-BeginsSearch how text input old new = (v : SearchVerdict) × (found : Findings) × Due how v found text input (AppendsSome old new)
+abbrev pub BeginsSearch : List ℕ → SearchForm → Option (List ℕ) → Option (List ℕ) → Option (List ℕ) → Option (List ℕ) → Type 0
+BeginsSearch servers how text input old new = (v : SearchVerdict) × (found : Findings) × Due servers how v found text input (AppendsSome old new)

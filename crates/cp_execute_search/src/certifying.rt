@@ -41,11 +41,11 @@ fn is_stuck(verdict: Verdict) -> bool
 }
 
 // Whether a machine is in a state of a kind.
-fn is_of_kind(machine: &Machine, kind: Kind) -> bool
-    ensures { result ≡ true → ShowsKind kind machine.now }
+fn is_of_kind(machine: &Machine, servers: &[u32], kind: Kind) -> bool
+    ensures { result ≡ true → ShowsKind kind servers.now machine.now }
 {
     match kind {
-        Kind::Stuck => is_stuck(verdict_on(machine)),
+        Kind::Stuck => is_stuck(verdict_on(machine, servers)),
         Kind::Fault => !none_has_faulted(machine),
     }
 }
@@ -56,14 +56,15 @@ fn replay_machine(
     alloc: Global,
     machine: &mut Machine,
     orders: &Orders,
+    servers: &[u32],
     kind: Kind,
 ) -> Result<Option<StatusSnapshot>, AllocError>
     requires first { machine.old.rounds ≡ 0 }
     requires within { AllWithin (processes_of machine.old) (rounds_of orders.now) }
-    ensures { IfOk result (ReachesIfSome kind (rounds_of orders.now) machine.old) }
+    ensures { IfOk result (ReachesIfSome kind servers.now (rounds_of orders.now) machine.old) }
 {
     replay_rounds(machine, orders, ONE_STEP)?;
-    if !is_of_kind(machine, kind) {
+    if !is_of_kind(machine, servers, kind) {
         return Ok(None);
     }
     Ok(Some(snapshot_of(alloc, machine)?))
@@ -77,11 +78,12 @@ fn replay_text(
     compiled: CompiledText<'_>,
     input: &[u8],
     order: &[u8],
+    servers: &[u32],
     kind: Kind,
 ) -> Result<Option<StatusSnapshot>, AllocError>
     requires program { IsProgramOf (view.tree text.now.tree) compiled.program }
     ensures { IfOk result
-        (LeadsIfSome kind (view.tree text.now.tree) input.now order.now) }
+        (LeadsIfSome kind servers.now (view.tree text.now.tree) input.now order.now) }
 {
     let CompiledText { program, tables } = compiled;
     let orders = match read_orders(alloc, order, program.processes()) {
@@ -90,11 +92,11 @@ fn replay_text(
         Err(OrderError::Line { .. }) => return Ok(None),
     };
     let mut machine = machine_at_start(alloc, program, &tables, input, EACH_ROUND)?;
-    replay_machine(alloc, &mut machine, &orders, kind)
+    replay_machine(alloc, &mut machine, &orders, servers, kind)
 }
 
 /// Replays the program of an accepted text by a schedule. It is found if it leads to a state of the
-/// kind, and a defect if not.
+/// kind, and a defect if not. The servers, by their numbers, may wait forever.
 ///
 /// # Errors
 ///
@@ -104,14 +106,16 @@ pub(crate) fn certify(
     text: &Text,
     input: &[u8],
     schedule: Schedule,
+    servers: &[u32],
     kind: Kind,
 ) -> Result<Finding, AllocError>
     requires accepted { Accepted (view.tree text.now.tree) }
-    ensures certified { IfOk result (IsCertified kind (view.tree text.now.tree) input.now) }
+    ensures certified { IfOk result
+        (IsCertified kind servers.now (view.tree text.now.tree) input.now) }
     ensures found { IfOk result (λ found. found ≡ variants.None → ⊥) }
 {
     let compiled = compile_accepted(alloc, text.key, &text.tree)?;
-    match replay_text(alloc, text, compiled, input, &schedule.order, kind)? {
+    match replay_text(alloc, text, compiled, input, &schedule.order, servers, kind)? {
         Some(snapshot) => Ok(Finding::Schedule(Found { schedule, snapshot })),
         None => Ok(Finding::Defect),
     }

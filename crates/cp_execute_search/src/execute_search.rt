@@ -27,7 +27,8 @@ pub struct Searched {
 }
 
 /// Searches all schedules of the text of one reader with the input of another, writes what was found
-/// in its form, and returns it. Each schedule that is shown was replayed before.
+/// in its form, and returns it. Each schedule that is shown was replayed before. The servers, by
+/// their numbers, may wait forever.
 ///
 /// # Errors
 ///
@@ -39,12 +40,14 @@ pub fn execute_search<R: Read, S: Read, W: Write, V: Watch>(
     alloc: Global,
     text: &mut R,
     input: &mut S,
+    servers: &[u32],
     how: Searching,
     watch: &V,
     out: &mut W,
 ) -> Result<Searched, Refusal>
-    ensures done { IfOk result (λ searched. ReportsSearch how.form searched.verdict searched.findings
-        (R.remaining text.old) (S.remaining input.old) (W.contents out.old) (W.contents out.new)) }
+    ensures done { IfOk result (λ searched. ReportsSearch servers.now how.form searched.verdict
+        searched.findings (R.remaining text.old) (S.remaining input.old) (W.contents out.old)
+        (W.contents out.new)) }
     ensures unwritten { IfErr result
         (λ e. (e ≡ refusal.Write → ⊥) → Keeps (W.contents out.old) (W.contents out.new)) }
     ensures refused { IfErr result
@@ -52,7 +55,7 @@ pub fn execute_search<R: Read, S: Read, W: Write, V: Watch>(
         → IfSome (R.remaining text.old) (λ xs. RefusesRun xs (S.remaining input.old) e)) }
     ensures beginning { IfErr result
         (λ e. e ≡ refusal.Write
-        → BeginsSearch how.form (R.remaining text.old) (S.remaining input.old)
+        → BeginsSearch servers.now how.form (R.remaining text.old) (S.remaining input.old)
         (W.contents out.old) (W.contents out.new)) }
     ensures faults { IfErr result
         (IsFaultOrOfInput (R.remaining text.old) (S.remaining input.old)) }
@@ -61,7 +64,7 @@ pub fn execute_search<R: Read, S: Read, W: Write, V: Watch>(
 {
     let accepted = read_accepted_text(alloc, text)?;
     let bytes = read_input(alloc, input)?;
-    let reported = search_text(alloc, &accepted, &bytes, how, watch)?;
+    let reported = search_text(alloc, &accepted, &bytes, servers, how, watch)?;
     write_result(out, &reported.page)?;
     let Reported {
         verdict,

@@ -39,27 +39,35 @@ fn finding_of(
     text: &Text,
     input: &[u8],
     recorded: Option<Recorded>,
+    servers: &[u32],
     kind: Kind,
 ) -> Result<Finding, AllocError>
     requires accepted { Accepted (view.tree text.now.tree) }
-    ensures certified { IfOk result (IsCertified kind (view.tree text.now.tree) input.now) }
+    ensures certified { IfOk result
+        (IsCertified kind servers.now (view.tree text.now.tree) input.now) }
     ensures none { IfOk result (λ found. found ≡ variants.None → recorded ≡ None) }
 {
     match recorded {
         None => Ok(Finding::None),
         Some(Recorded::TooLong) => Ok(Finding::TooLong),
-        Some(Recorded::Schedule(schedule)) => certify(alloc, text, input, schedule, kind),
+        Some(Recorded::Schedule(schedule)) => certify(alloc, text, input, schedule, servers, kind),
     }
 }
 
 // What was found of all that was seen.
-fn findings_of(alloc: Global, text: &Text, input: &[u8], seen: Seen) -> Result<Findings, AllocError>
+fn findings_of(
+    alloc: Global,
+    text: &Text,
+    input: &[u8],
+    servers: &[u32],
+    seen: Seen,
+) -> Result<Findings, AllocError>
     requires accepted { Accepted (view.tree text.now.tree) }
-    ensures { IfOk result (IsFoundIn (view.tree text.now.tree) input.now seen) }
+    ensures { IfOk result (IsFoundIn servers.now (view.tree text.now.tree) input.now seen) }
 {
     Ok(Findings {
-        stuck: finding_of(alloc, text, input, seen.stuck, Kind::Stuck)?,
-        fault: finding_of(alloc, text, input, seen.fault, Kind::Fault)?,
+        stuck: finding_of(alloc, text, input, seen.stuck, servers, Kind::Stuck)?,
+        fault: finding_of(alloc, text, input, seen.fault, servers, Kind::Fault)?,
         has_ended: seen.has_ended,
         states: seen.states,
         transitions: seen.transitions,
@@ -116,23 +124,25 @@ fn search_compiled<V: Watch>(
     text: &Text,
     compiled: &CompiledText<'_>,
     input: &[u8],
+    servers: &[u32],
     how: Searching,
     watch: &V,
 ) -> Result<Reported, AllocError>
     requires accepted { Accepted (view.tree text.now.tree) }
     requires program { IsProgramOf (view.tree text.now.tree) compiled.now.program }
-    ensures search { IfOk result (λ reported. IsSearchOf (view.tree text.now.tree) input.now
-        reported.verdict reported.findings) }
+    ensures search { IfOk result (λ reported. IsSearchOf servers.now (view.tree text.now.tree)
+        input.now reported.verdict reported.findings) }
     ensures page { IfOk result (λ reported. IsWritten how.form reported.page.items) }
 {
-    let seen = see(alloc, &compiled.program, input, how, watch)?;
-    let findings = findings_of(alloc, text, input, seen)?;
+    let seen = see(alloc, &compiled.program, input, servers, how, watch)?;
+    let findings = findings_of(alloc, text, input, servers, seen)?;
     let verdict = verdict_of(&findings);
     let subject = Subject {
         bytes: &text.bytes,
         tree: &text.tree,
         tables: &compiled.tables,
         program: &compiled.program,
+        servers,
     };
     let page = page_of(alloc, subject, &findings, verdict, how)?;
     Ok(Reported {
@@ -142,7 +152,7 @@ fn search_compiled<V: Watch>(
     })
 }
 
-/// Searches the program of an accepted text.
+/// Searches the program of an accepted text. The servers, by their numbers, may wait forever.
 ///
 /// # Errors
 ///
@@ -151,16 +161,17 @@ pub(crate) fn search_text<V: Watch>(
     alloc: Global,
     text: &Text,
     input: &[u8],
+    servers: &[u32],
     how: Searching,
     watch: &V,
 ) -> Result<Reported, Refusal>
     requires accepted { Accepted (view.tree text.now.tree) }
-    ensures search { IfOk result (λ reported. IsSearchOf (view.tree text.now.tree) input.now
-        reported.verdict reported.findings) }
+    ensures search { IfOk result (λ reported. IsSearchOf servers.now (view.tree text.now.tree)
+        input.now reported.verdict reported.findings) }
     ensures page { IfOk result (λ reported. IsWritten how.form reported.page.items) }
     ensures memory { IfErr result (λ e. e ≡ refusal.Memory) }
 {
     let compiled = compile_accepted(alloc, text.key, &text.tree)?;
-    let reported = search_compiled(alloc, text, &compiled, input, how, watch)?;
+    let reported = search_compiled(alloc, text, &compiled, input, servers, how, watch)?;
     Ok(reported)
 }

@@ -73,7 +73,8 @@ fn record_at(
     Ok(Some(record(alloc, program, inputs, &callers)?))
 }
 
-/// Searches all schedules of a program with an input.
+/// Searches all schedules of a program with an input. The servers, by their numbers, may wait
+/// forever.
 ///
 /// # Errors
 ///
@@ -82,13 +83,14 @@ pub(crate) fn see<V: Watch>(
     alloc: Global,
     program: &Program,
     input: &[u8],
+    servers: &[u32],
     how: Searching,
     watch: &V,
 ) -> Result<Seen, AllocError>
-    ensures { IfOk result (IsSeen program.now input.now) }
+    ensures { IfOk result (IsSeen servers.now program.now input.now) }
 {
     let inputs = cut_input(alloc, input, program.processes())?;
-    let explored = search(alloc, program, &inputs, limits_of(how), watch)?;
+    let explored = search(alloc, program, &inputs, servers, limits_of(how), watch)?;
     let stuck = record_at(
         alloc,
         program,

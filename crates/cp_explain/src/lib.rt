@@ -6,7 +6,8 @@
 //! graph (cp_explain_rights). `all` reports all violations of a text, and what it uses of the
 //! book's language that this one hasn't (`lacking`). `object` reports the same for a text as a JSON
 //! object, from the parts of its page (`parts`) and the lines of its graph (`graph_object`).
-//! `asked` chooses one of these forms.
+//! `asked` chooses one of these forms. `refused_object` is what commands that run a text write if it
+//! is refused.
 //!
 //! The judgement, the position and the start of the first line are proved (`specs/Explained.antt`),
 //! and the judgement in an object (`specs/Objects.antt`). The wording is tested.
@@ -19,5 +20,6 @@ mod graph_object;
 mod lacking;
 pub mod object;
 mod parts;
+pub mod refused_object;
 mod reported;
 mod token_end;

@@ -32,9 +32,9 @@ use serde::Serialize;
 use std::alloc::{AllocError, Global};
 use std::io::{Read, Write};
 
-// A violation or a syntax error.
+/// Why a text is refused: a violation or a syntax error.
 #[derive(Drop, Serialize)]
-struct ViolationObject {
+pub(crate) struct ViolationObject {
     rule: String,
     line: usize,
     column: usize,
@@ -151,8 +151,8 @@ fn note_objects(
     Ok(all)
 }
 
-// The violations that are reported of a text.
-fn violation_objects(
+/// The violations that are reported of a text. Fails only if memory runs out.
+pub(crate) fn violation_objects(
     alloc: Global,
     key: Key,
     text: &[u8],
@@ -243,8 +243,9 @@ fn of_tree(
     }
 }
 
-// Why a text has no tree: the first reason, or all of its syntax errors.
-fn mistake_objects(
+/// Why a text has no tree: the first reason, or all of its syntax errors. Fails only if memory runs
+/// out.
+pub(crate) fn mistake_objects(
     alloc: Global,
     text: &[u8],
     refusal: Refusal,

@@ -1,2 +1,4 @@
 pub mod Testing
 pub mod Transcripts
+pub mod Sections
+pub mod Ends

@@ -1,8 +1,6 @@
 //! The `continue` statements of each process: those that it can still come to, and those that it
 //! can't any more.
 
-ghost use Rattle.std.specs.Prelude.{◌<◌, IfSome, length};
-
 use crate::activation::Activation;
 use crate::targets::Walker;
 use crate::walk::Come;
@@ -10,6 +8,7 @@ use crate::words::Words;
 use cp_outcome_circles::site::{ContinueSite, Reach};
 use cp_program::program::Program;
 use std::alloc::{AllocError, Global};
+use std::collections::BTreeMap;
 
 /// Whether a process can still make a step.
 #[derive(Clone, Copy)]
@@ -52,56 +51,63 @@ fn start_of(program: &Program, body: u32) -> Activation {
     }
 }
 
-// The index of a `continue` among sites, if it is there.
-fn index_of(sites: &[ContinueSite], monitor: u32, at: usize) -> Option<usize>
-    ensures { IfSome result (λ i. i < length sites.now) }
-{
-    for i in 0..sites.len() {
-        if sites[i].monitor == monitor && sites[i].at == at {
-            return Some(i);
-        }
-    }
-    None
+// A `continue` of a monitor.
+#[derive(Clone, Copy, PartialEq, Eq, PartialOrd, Ord)]
+struct Place {
+    monitor: u32,
+    at: usize,
 }
 
-// Adds a site. One that is there already is come to by a call if either is.
-fn add_site(sites: &mut Vec<ContinueSite>, site: ContinueSite) -> Result<(), AllocError> {
-    match index_of(sites, site.monitor, site.at) {
-        Some(i) => {
-            if site.reach == Reach::ByCall {
-                sites[i].reach = Reach::ByCall;
+// The `continue` statements of a process, and how it comes to each.
+#[derive(Drop)]
+struct Sites {
+    reaches: BTreeMap<Place, Reach>,
+}
+
+impl Sites {
+    // Adds a `continue`. One that is there already has the nearer of both ways.
+    fn add(&mut self, place: Place, reach: Reach) -> Result<(), AllocError> {
+        let nearest = match self.reaches.get(&place) {
+            Some(known) => known.nearer(reach),
+            None => reach,
+        };
+        match self.reaches.insert(place, nearest) {
+            Ok(_) => Ok(()),
+            Err(_) => Err(AllocError),
+        }
+    }
+
+    // Adds those that are come to. They are past if `is_past`.
+    fn add_all(
+        &mut self,
+        program: &Program,
+        all: &[Come],
+        is_past: bool,
+    ) -> Result<(), AllocError> {
+        for come in all {
+            if let Some(at) = program.origin(come.operation) {
+                let place = Place {
+                    monitor: come.monitor,
+                    at,
+                };
+                self.add(place, if is_past { Reach::Past } else { come.reach })?;
             }
         }
-        None => sites.push(site)?,
+        Ok(())
     }
-    Ok(())
-}
 
-// Adds the sites that are come to. They are past if `is_past`.
-fn add_all(
-    program: &Program,
-    all: &[Come],
-    is_past: bool,
-    sites: &mut Vec<ContinueSite>,
-) -> Result<(), AllocError> {
-    for come in all {
-        let Some(at) = program.origin(come.operation) else {
-            continue;
-        };
-        let known = index_of(sites, come.monitor, at).is_some();
-        if is_past && known {
-            continue;
+    // The statements by monitors, and by their places.
+    fn list(&self, alloc: Global) -> Result<Vec<ContinueSite>, AllocError> {
+        let mut list = Vec::new(alloc);
+        for (place, reach) in &self.reaches {
+            list.push(ContinueSite {
+                monitor: place.monitor,
+                at: place.at,
+                reach: *reach,
+            })?;
         }
-        add_site(
-            sites,
-            ContinueSite {
-                monitor: come.monitor,
-                at,
-                reach: if is_past { Reach::Past } else { come.reach },
-            },
-        )?;
+        Ok(list)
     }
-    Ok(())
 }
 
 // Marks the process with a number.
@@ -140,7 +146,9 @@ fn sites_of(
     process: &Remainder,
     is_startable: bool,
 ) -> Result<Vec<ContinueSite>, AllocError> {
-    let mut sites = Vec::new(alloc);
+    let mut sites = Sites {
+        reaches: BTreeMap::new(alloc),
+    };
     let has_left = match process.stage {
         Stage::Unstarted => is_startable,
         Stage::Alive | Stage::Asking => true,
@@ -148,11 +156,11 @@ fn sites_of(
     };
     if has_left {
         let ahead = walker.walk(process.words, &process.activations, process.asks())?;
-        add_all(program, &ahead.continues, false, &mut sites)?;
+        sites.add_all(program, &ahead.continues, false)?;
     }
     let whole = walker.walk(process.words, &[start_of(program, process.body)], false)?;
-    add_all(program, &whole.continues, true, &mut sites)?;
-    Ok(sites)
+    sites.add_all(program, &whole.continues, true)?;
+    sites.list(alloc)
 }
 
 /// The `continue` statements of each process. The processes are those of a machine that runs the

@@ -2,8 +2,8 @@
 //! activations have been called. All of it is read off the compiled program, the activations of the
 //! process, and its rights.
 //!
-//! - `walk`: all operations that a process can still come to. `successors`: where an operation
-//!   leads.
+//! - `walk`: all operations that a process can still come to. `passages`: what activations do from
+//!   one of their operations on. `successors`: where an operation leads.
 //! - `targets`: the components that calls refer to. `rights`: the rights that are passed by an `init`
 //!   which is still to come.
 //! - `activation`: where an activation continues. `words`: the words in which a process has its
@@ -17,6 +17,7 @@
 
 pub mod activation;
 pub mod continuing;
+mod passages;
 pub mod places;
 mod rights;
 mod successors;

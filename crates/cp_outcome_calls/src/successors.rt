@@ -24,14 +24,6 @@ pub(crate) fn first_of_unit(program: &Program, operation: u32) -> u32 {
     0
 }
 
-// Adds the operations of a unit that were emitted before one.
-fn push_rest(program: &Program, at: u32, places: &mut Vec<u32>) -> Result<(), AllocError> {
-    for place in first_of_unit(program, at)..at {
-        places.push(place)?;
-    }
-    Ok(())
-}
-
 fn push_dense(table: &[Option<u32>], places: &mut Vec<u32>) -> Result<(), AllocError> {
     for place in table {
         if let Some(place) = place {
@@ -41,18 +33,16 @@ fn push_dense(table: &[Option<u32>], places: &mut Vec<u32>) -> Result<(), AllocE
     Ok(())
 }
 
-// Adds where a `case` leads. One whose labels are far apart may lead to any operation that was
-// emitted before it, as its arms were.
-fn push_arms(
-    program: &Program,
-    at: u32,
-    table: &Table,
-    places: &mut Vec<u32>,
-) -> Result<(), AllocError> {
-    match table {
-        Table::Dense { places: table, .. } => push_dense(table, places),
-        Table::Sparse(_) => push_rest(program, at, places),
-    }
+/// Whether an operation may lead to any operation of its unit that was emitted before it, as the arms
+/// of a `case` were. So does one whose labels are far apart.
+pub(crate) fn leads_to_all_before(operation: &Operation) -> bool {
+    matches!(
+        operation,
+        Operation::Case {
+            table: Table::Sparse(_),
+            ..
+        }
+    )
 }
 
 // Adds the places to which an operation leads that evaluates a term.
@@ -71,11 +61,9 @@ fn push_after_value(after: &Then, places: &mut Vec<u32>) -> Result<(), AllocErro
     Ok(())
 }
 
-/// Adds the places to which the operation at a place leads within its activation. Fails only if
-/// memory runs out.
+/// Adds the places to which an operation leads within its activation, unless it leads to all before
+/// it. Fails only if memory runs out.
 pub(crate) fn push_successors(
-    program: &Program,
-    at: u32,
     operation: &Operation,
     places: &mut Vec<u32>,
 ) -> Result<(), AllocError> {
@@ -91,7 +79,10 @@ pub(crate) fn push_successors(
         | Operation::Accept { next, .. }
         | Operation::Delay { next, .. }
         | Operation::Wait { next } => places.push(*next)?,
-        Operation::Case { table, .. } => push_arms(program, at, table, places)?,
+        Operation::Case {
+            table: Table::Dense { places: table, .. },
+            ..
+        } => push_dense(table, places)?,
         Operation::For { counting, .. } | Operation::ForNext(counting) => {
             places.push(counting.body)?;
             places.push(counting.next)?;
@@ -100,7 +91,11 @@ pub(crate) fn push_successors(
         Operation::Return { .. }
         | Operation::EndBody
         | Operation::End
-        | Operation::Continue { .. } => {}
+        | Operation::Continue { .. }
+        | Operation::Case {
+            table: Table::Sparse(_),
+            ..
+        } => {}
     }
     Ok(())
 }

@@ -1,5 +1,6 @@
 //! The components that calls and rights refer to, as far as they are known.
 
+use crate::passages::Passages;
 use crate::rights::Rights;
 use crate::words::{Address, Words};
 use cp_program::operation::{Argument, Call, Target};
@@ -15,6 +16,7 @@ pub(crate) struct Walker<'r> {
     /// The monitors by their first shared word.
     monitors: BTreeMap<usize, u32>,
     pub(crate) rights: Rights,
+    pub(crate) passages: Passages<'r>,
 }
 
 // The address at a distance from another one.
@@ -57,6 +59,7 @@ impl<'r> Walker<'r> {
             program,
             monitors: monitors_of(alloc, program)?,
             rights: Rights::new(alloc),
+            passages: Passages::new(alloc, program),
         })
     }
 

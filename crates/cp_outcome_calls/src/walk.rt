@@ -1,7 +1,6 @@
 //! All operations that a process can still come to, through classes, monitors and routines.
 
 use crate::activation::Activation;
-use crate::successors::push_successors;
 use crate::targets::Walker;
 use crate::words::Words;
 use cp_outcome_circles::site::Reach;
@@ -9,7 +8,8 @@ use cp_program::operation::{Call, Operation};
 use std::alloc::{AllocError, Global};
 use std::collections::BTreeSet;
 
-// An operation in a component that is come to, maybe by a call that is still to be made.
+// An operation of a component from which an activation continues, maybe by a call that is still to
+// be made.
 #[derive(Clone, Copy, PartialEq, Eq, PartialOrd, Ord)]
 struct Visit {
     component: usize,
@@ -17,7 +17,14 @@ struct Visit {
     is_called: bool,
 }
 
-// The operations that have been come to, and those of them that are left to visit.
+impl Visit {
+    // The same activation at an operation.
+    fn at(self, operation: u32) -> Visit {
+        Visit { operation, ..self }
+    }
+}
+
+// The operations from which activations continue, and those of them that are left to visit.
 #[derive(Drop)]
 struct Frontier {
     seen: BTreeSet<Visit>,
@@ -131,7 +138,7 @@ impl Walker<'_> {
         }
     }
 
-    // Visits an operation: adds where it leads, and what it calls, starts or continues.
+    // Visits what an activation does from an operation on: adds what it calls, starts or continues.
     fn visit(
         &mut self,
         words: Words,
@@ -140,18 +147,16 @@ impl Walker<'_> {
         found: &mut Found,
     ) -> Result<(), AllocError> {
         let program = self.program;
-        let Some(operation) = program.operation(visit.operation) else {
-            return Ok(());
-        };
-        let mut places = Vec::new(self.alloc);
-        push_successors(program, visit.operation, operation, &mut places)?;
-        for place in &places {
-            frontier.add(Visit {
-                operation: *place,
-                ..visit
-            })?;
+        let number = self.passages.number(visit.operation)?;
+        for index in 0..usize::MAX {
+            let Some(place) = self.passages.act(number, index) else {
+                break;
+            };
+            if let Some(operation) = program.operation(place) {
+                self.follow(words, visit.at(place), operation, frontier, found)?;
+            }
         }
-        self.follow(words, visit, operation, frontier, found)
+        Ok(())
     }
 
     // What a process can still come to from these activations, by the rights that are known.

@@ -1,12 +1,12 @@
 //! The processes that are delayed, and who could continue them.
 
-use crate::indices::push_path;
-use crate::queues::continuers_of;
 use crate::snapshot::{ProcessSnapshot, StatusSnapshot};
 use cp_inspect::state::ProcState;
 use cp_model::tree::{Identifier, System, Tree};
 use cp_outcome_circles::circle::Wait;
 use cp_outcome_circles::site::{ContinueSite, Reach};
+use cp_outcome_text::indices::push_path;
+use cp_outcome_text::queues::continuers_of;
 use cp_private::kernel_view::Holder;
 use std::alloc::{AllocError, Global};
 
@@ -96,8 +96,8 @@ impl<'t> Delay<'t> {
         Ok(())
     }
 
-    // Adds the processes that have one of the `continue` statements at these places, but for the
-    // delayed one. The statements are ordered by processes.
+    // Adds the processes that have one of the `continue` statements at these places, which are in the
+    // order of the text, but for the delayed one. The statements are ordered by processes.
     fn add_helpers(
         &mut self,
         helpers: &[Helper],
@@ -107,7 +107,7 @@ impl<'t> Delay<'t> {
         let mut last: Option<(u32, Reach)> = None;
         for helper in helpers {
             let Helper { process, site } = *helper;
-            if process == delayed || !places.contains(&site.at) {
+            if process == delayed || places.binary_search(&site.at).is_err() {
                 continue;
             }
             let mut reach = site.reach;

@@ -1,10 +1,10 @@
 //! What a fault means, and the piece of the text that it stopped.
 
 use crate::names::Subject;
-use crate::piece::{Extent, push_piece};
 use crate::snapshot::{ProcessSnapshot, Site};
 use cp_inspect::status::fault_number;
 use cp_model::state::Fault;
+use cp_outcome_text::piece::{Extent, push_piece};
 use cp_output::page::Page;
 
 // What a fault means. The piece of the text is after these words.

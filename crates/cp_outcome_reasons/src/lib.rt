@@ -2,12 +2,12 @@
 //! an outcome after its verdict, the graph of who waits for whom, and the outcome as an object.
 //!
 //! - `reasons`: the lines. `waits`: the graph. `object`: the object.
+//! - `servers`: who may wait forever, or would have to.
 //! - `snapshot`: where all are, as plain data. `states`: the word of a state.
 //! - `names`: components, queues and places of the text.
-//! - `faults`, `piece`: what a fault means, and the piece of the text that it stopped.
-//! - `delays`, `helpers`: who could continue whom, as data and in words.
-//! - `queues`: which entries continue a queue. `starts`: which `init` starts a process. They are read
-//!   off the text, by the `parts` of its statements. `indices`: paths with names as indices.
+//! - `faults`: what a fault means. `shown`: variables that are asked for by name.
+//! - `delays`, `helpers`: who could continue whom, as data and in words. `loops`: a state that came
+//!   again.
 //!
 //! All of this is for people to read, and is tested. `specs/Graphs.antt` says which form a graph
 //! has.
@@ -16,14 +16,12 @@
 mod delays;
 mod faults;
 mod helpers;
-mod indices;
+pub mod loops;
 pub mod names;
 pub mod object;
-mod parts;
-mod piece;
-mod queues;
 pub mod reasons;
+pub mod servers;
+mod shown;
 pub mod snapshot;
-mod starts;
 mod states;
 pub mod waits;

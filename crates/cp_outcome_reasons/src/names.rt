@@ -1,7 +1,6 @@
 //! What reasons are about, and its names: components, queues and places of the text.
 
 use crate::delays::{Delay, Helpers, wait_of};
-use crate::parts::Parts;
 use crate::snapshot::{ProcessSnapshot, StatusSnapshot};
 use cp_compile_symbols::{Field, Tables, TypeRow};
 use cp_inspect::component_table::ComponentTable;
@@ -9,6 +8,7 @@ use cp_inspect::state::ProcState;
 use cp_model::token::Token;
 use cp_model::tree::{Statement, System, Tree};
 use cp_outcome_circles::circle::{Link, circle};
+use cp_outcome_text::parts::Parts;
 use cp_output::page::Page;
 use cp_output::position::Position;
 use cp_scan::scan;
@@ -22,6 +22,8 @@ pub struct Source<'r, 't> {
     pub tables: &'r Tables<'t>,
     /// Where all are in the machine.
     pub snapshot: &'r StatusSnapshot,
+    /// The numbers of the processes that may wait forever.
+    pub servers: &'r [u32],
 }
 
 /// What the text of a machine says.
@@ -30,6 +32,7 @@ pub(crate) struct Subject<'r, 't> {
     pub(crate) alloc: Global,
     pub(crate) text: &'r [u8],
     pub(crate) snapshot: &'r StatusSnapshot,
+    pub(crate) servers: &'r [u32],
     /// The tokens of the text, if a process has faulted.
     pub(crate) tokens: Vec<Token>,
     pub(crate) component_table: ComponentTable<'t>,
@@ -124,6 +127,7 @@ impl<'r, 't> Subject<'r, 't> {
             tree,
             tables,
             snapshot,
+            servers,
         } = source;
         let component_table = ComponentTable::of(alloc, tables)?;
         let mut parts = Parts::new(alloc);
@@ -134,6 +138,7 @@ impl<'r, 't> Subject<'r, 't> {
             alloc,
             text: bytes,
             snapshot,
+            servers,
             tokens: tokens_of(alloc, bytes, snapshot)?,
             component_table,
             statements: parts.statements,

@@ -4,12 +4,14 @@ ghost use Rattle.std.specs.Prelude.{IfOk};
 ghost use Rattle.cp_output.specs.Json.{IsJsonLine};
 
 use crate::delays::Delay;
+use crate::loops::Loop;
 use crate::names::{Source, Subject};
 use crate::snapshot::{MonitorSnapshot, ProcessSnapshot};
-use crate::starts::places_of_init;
 use crate::states::word_of;
 use cp_inspect::state::ProcState;
 use cp_inspect::status::fault_number;
+use cp_outcome_text::starts::places_of_init;
+use cp_outcome_variables::variables::{Variable, Variables};
 use cp_output::object::{FORMAT, line};
 use cp_output::position::Position;
 use cp_private::kernel_view::Holder;
@@ -53,6 +55,9 @@ struct DelayObject {
 pub struct ProcessObject {
     process: u32,
     name: String,
+    /// `true` for a server.
+    #[serde(skip_serializing_if = "Option::is_none")]
+    server: Option<bool>,
     state: &'static str,
     #[serde(skip_serializing_if = "Option::is_none")]
     fault: Option<u64>,
@@ -79,14 +84,24 @@ struct LinkObject {
     monitor: Option<String>,
 }
 
-// Who is at a monitor.
+// Who is at a monitor, and its variables.
 #[derive(Drop, Serialize)]
-struct MonitorObject {
+struct MonitorObject<'a> {
     monitor: u32,
     name: String,
     gate: &'static str,
     #[serde(skip_serializing_if = "Option::is_none")]
     held_by: Option<String>,
+    variables: &'a [Variable],
+}
+
+// A state that came again, and who moved between.
+#[derive(Drop, Serialize)]
+struct LoopObject {
+    first: u64,
+    again: u64,
+    moves: Vec<String>,
+    stays: Vec<String>,
 }
 
 // What became of a run.
@@ -96,9 +111,16 @@ struct OutcomeObject<'a> {
     verdict: &'a str,
     turn: u32,
     round: u64,
+    #[serde(skip_serializing_if = "Vec::is_empty")]
+    servers: Vec<String>,
     processes: Vec<ProcessObject>,
     circle: Vec<LinkObject>,
-    monitors: Vec<MonitorObject>,
+    #[serde(rename = "loop", skip_serializing_if = "Option::is_none")]
+    found: Option<LoopObject>,
+    monitors: Vec<MonitorObject<'a>>,
+    /// The variables that were asked for by name.
+    #[serde(skip_serializing_if = "Option::is_none")]
+    shown: Option<&'a [Variable]>,
 }
 
 impl<'t> Subject<'_, 't> {
@@ -230,6 +252,11 @@ impl<'t> Subject<'_, 't> {
         let mut object = ProcessObject {
             process: process.number,
             name: self.process_string(process.number)?,
+            server: if self.is_server(process.number) {
+                Some(true)
+            } else {
+                None
+            },
             state: word_of(process.state),
             fault: None,
             monitor: None,
@@ -267,7 +294,23 @@ impl<'t> Subject<'_, 't> {
         Ok(links)
     }
 
-    fn monitor_object(&self, monitor: &MonitorSnapshot) -> Result<MonitorObject, AllocError> {
+    fn loop_object(&self, found: Option<&Loop>) -> Result<Option<LoopObject>, AllocError> {
+        let Some(found) = found else {
+            return Ok(None);
+        };
+        Ok(Some(LoopObject {
+            first: found.first,
+            again: found.again,
+            moves: self.process_strings(&found.moves)?,
+            stays: self.process_strings(&found.stays)?,
+        }))
+    }
+
+    fn monitor_object<'a>(
+        &self,
+        monitor: &MonitorSnapshot,
+        variables: &'a [Variable],
+    ) -> Result<MonitorObject<'a>, AllocError> {
         Ok(MonitorObject {
             monitor: monitor.number,
             name: self.monitor_string(monitor.number)?,
@@ -277,13 +320,18 @@ impl<'t> Subject<'_, 't> {
                 Holder::Process(_) => "held",
             },
             held_by: self.holder_string(monitor.number)?,
+            variables,
         })
     }
 
-    fn monitor_objects(&self) -> Result<Vec<MonitorObject>, AllocError> {
+    // All monitors, by number, each with its variables.
+    fn monitor_objects<'a>(
+        &self,
+        variables: &'a [Vec<Variable>],
+    ) -> Result<Vec<MonitorObject<'a>>, AllocError> {
         let mut all = Vec::new(self.alloc);
-        for monitor in &self.snapshot.monitors {
-            all.push(self.monitor_object(monitor)?)?;
+        for (monitor, own) in self.snapshot.monitors.iter().zip(variables) {
+            all.push(self.monitor_object(monitor, own)?)?;
         }
         Ok(all)
     }
@@ -301,9 +349,15 @@ pub fn process_objects(
     Subject::of(alloc, source)?.process_objects()
 }
 
+// The variables that were asked for by name, if some were.
+fn shown_of(shown: &[Variable]) -> Option<&[Variable]> {
+    if shown.is_empty() { None } else { Some(shown) }
+}
+
 /// The outcome of a machine as a line with a JSON object: the word for its verdict, the steps of a
-/// turn, the number of rounds, each process with its state, its place and why it is there, the
-/// circle, and the monitors.
+/// turn, the number of rounds, the servers, each process with its state, its place and why it is
+/// there, the circle, a state that came again, the monitors with their variables, and the variables
+/// that were asked for.
 ///
 /// # Errors
 ///
@@ -313,6 +367,8 @@ pub fn object(
     source: Source<'_, '_>,
     verdict: &str,
     turn: u32,
+    found: Option<&Loop>,
+    variables: &Variables,
 ) -> Result<Vec<u8>, AllocError>
     ensures { IfOk result (λ bytes. IsJsonLine bytes.items) }
 {
@@ -322,9 +378,12 @@ pub fn object(
         verdict,
         turn,
         round: subject.snapshot.rounds,
+        servers: subject.process_strings(subject.servers)?,
         processes: subject.process_objects()?,
         circle: subject.circle_objects()?,
-        monitors: subject.monitor_objects()?,
+        found: subject.loop_object(found)?,
+        monitors: subject.monitor_objects(&variables.monitors)?,
+        shown: shown_of(&variables.shown),
     };
     line(alloc, &outcome)
 }

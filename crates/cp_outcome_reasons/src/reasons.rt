@@ -2,10 +2,13 @@
 
 use crate::delays::Delay;
 use crate::helpers::separator;
+use crate::loops::Loop;
 use crate::names::{Source, Subject};
+use crate::shown::{Setting, push_shown};
 use crate::snapshot::{ProcessSnapshot, Site};
-use crate::starts::places_of_init;
 use cp_inspect::state::ProcState;
+use cp_outcome_text::starts::places_of_init;
+use cp_outcome_variables::variables::Variable;
 use cp_output::page::Page;
 use cp_private::kernel_view::Holder;
 use std::alloc::{AllocError, Global};
@@ -149,17 +152,27 @@ impl<'t> Subject<'_, 't> {
 }
 
 /// A line for each process of a machine that hasn't ended, by number: where it is, why, and
-/// where in the text that is. Then comes a line for a circle, if some wait for each other.
+/// where in the text that is. Then comes a line for a circle, if some wait for each other, one for a
+/// state that came again, and one for each of these variables.
 ///
 /// # Errors
 ///
 /// `AllocError` if memory runs out.
-pub fn reasons(alloc: Global, source: Source<'_, '_>) -> Result<Vec<u8>, AllocError> {
+pub fn reasons(
+    alloc: Global,
+    source: Source<'_, '_>,
+    found: Option<&Loop>,
+    shown: &[Variable],
+) -> Result<Vec<u8>, AllocError> {
     let subject = Subject::of(alloc, source)?;
     let mut page = Page::new(alloc);
     for process in &subject.snapshot.processes {
         subject.push_reason(&mut page, process)?;
     }
     subject.push_circle(&mut page);
+    if let Some(found) = found {
+        subject.push_loop(&mut page, found);
+    }
+    push_shown(alloc, &mut page, shown, Setting::Text)?;
     page.finish()
 }

@@ -1,15 +1,18 @@
 //! Who waits for whom, as a graph for Graphviz: an arrow leads from a process to the monitor that
 //! it asks for or that it is delayed in, from a monitor to the process that holds it, and, dotted,
 //! from a monitor to the processes that alone could continue one of its queues. A circle is red.
+//! Variables are in a note.
 
 ghost use Rattle.std.specs.Prelude.{◌≡◌, ◌<◌, IfOk, length};
 ghost use Rattle.cp_outcome_reasons.specs.Graphs.{graph};
 
 use crate::delays::Delay;
 use crate::names::{Source, Subject};
+use crate::shown::{Setting, push_shown};
 use crate::snapshot::ProcessSnapshot;
 use crate::states::word_of;
 use cp_inspect::state::ProcState;
+use cp_outcome_variables::variables::Variable;
 use cp_output::graphviz::{push_arrow, push_node};
 use cp_output::page::Page;
 use cp_private::kernel_view::Holder;
@@ -176,14 +179,29 @@ impl<'t> Subject<'_, 't> {
         }
     }
 
+    // Adds a note with variables, if there are any. Its name has a blank, which no name of a text
+    // has.
+    fn add_note(&self, page: &mut Page, shown: &[Variable]) -> Result<(), AllocError> {
+        if shown.is_empty() {
+            return Ok(());
+        }
+        page.text("  ");
+        push_node(page, b"shown variables");
+        page.text(" [label=\"");
+        push_shown(self.alloc, page, shown, Setting::Label)?;
+        page.text("\", shape=note];\n");
+        Ok(())
+    }
+
     // The nodes and the arrows.
-    fn drawn(&self) -> Result<Vec<u8>, AllocError> {
+    fn drawn(&self, shown: &[Variable]) -> Result<Vec<u8>, AllocError> {
         let mut page = Page::new(self.alloc);
         self.add_processes(&mut page);
         self.add_monitors(&mut page);
         self.add_waits(&mut page);
         self.add_holders(&mut page);
         self.add_all_helpers(&mut page);
+        self.add_note(&mut page, shown)?;
         page.finish()
     }
 }
@@ -201,14 +219,18 @@ fn graph_of(alloc: Global, body: &[u8]) -> Result<Vec<u8>, AllocError>
 }
 
 /// Who waits for whom in a machine, as a graph for Graphviz: its processes that haven't
-/// ended, and its monitors that are held, asked for or waited in.
+/// ended, and its monitors that are held, asked for or waited in. These variables are in a note.
 ///
 /// # Errors
 ///
 /// `AllocError` if memory runs out.
-pub fn waits(alloc: Global, source: Source<'_, '_>) -> Result<Vec<u8>, AllocError>
+pub fn waits(
+    alloc: Global,
+    source: Source<'_, '_>,
+    shown: &[Variable],
+) -> Result<Vec<u8>, AllocError>
     ensures some { IfOk result (λ bytes. 0 < length bytes.items) }
 {
     let subject = Subject::of(alloc, source)?;
-    graph_of(alloc, &subject.drawn()?)
+    graph_of(alloc, &subject.drawn(shown)?)
 }

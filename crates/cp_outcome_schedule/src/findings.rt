@@ -7,13 +7,15 @@ use cp_program::program::Program;
 use cp_search::notes::Stop;
 use cp_search_schedule::schedule::Schedule;
 
-/// A text and its program.
+/// A text, its program, and who may wait forever.
 #[derive(Clone, Copy)]
 pub struct Subject<'r, 't> {
     pub bytes: &'r [u8],
     pub tree: &'t Tree,
     pub tables: &'r Tables<'t>,
     pub program: &'r Program,
+    /// The numbers of the processes that may wait forever.
+    pub servers: &'r [u32],
 }
 
 /// A schedule that was found, and where its replay leaves all processes.
@@ -41,7 +43,7 @@ pub enum Finding {
 pub struct Findings {
     pub stuck: Finding,
     pub fault: Finding,
-    /// Whether all processes have ended in a state that was seen.
+    /// Whether each process has ended, or is a server and is delayed, in a state that was seen.
     pub has_ended: bool,
     /// How many states were seen.
     pub states: usize,

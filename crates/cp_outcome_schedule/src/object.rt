@@ -60,6 +60,8 @@ struct ScheduleObject {
 struct SearchObject {
     format: u32,
     verdict: &'static str,
+    #[serde(skip_serializing_if = "Vec::is_empty")]
+    servers: Vec<String>,
     fault: Option<ScheduleObject>,
     stuck: Option<ScheduleObject>,
     ended: bool,
@@ -171,6 +173,7 @@ impl Names<'_, '_> {
             tree: self.subject.tree,
             tables: self.subject.tables,
             snapshot: &found.snapshot,
+            servers: self.subject.servers,
         };
         Ok(ScheduleObject {
             inits: found.schedule.calls.len().saturating_sub(calls.len()),
@@ -178,6 +181,14 @@ impl Names<'_, '_> {
             processes: process_objects(self.alloc, source)?,
             order: self.string(&found.schedule.order)?,
         })
+    }
+
+    fn server_strings(&self) -> Result<Vec<String>, AllocError> {
+        let mut strings = Vec::new(self.alloc);
+        for server in self.subject.servers {
+            strings.push(self.process_string(*server)?)?;
+        }
+        Ok(strings)
     }
 
     fn finding_object(&self, finding: &Finding) -> Result<Option<ScheduleObject>, AllocError> {
@@ -205,6 +216,7 @@ pub fn object(
     let object = SearchObject {
         format: FORMAT,
         verdict,
+        servers: names.server_strings()?,
         fault: names.finding_object(&findings.fault)?,
         stuck: names.finding_object(&findings.stuck)?,
         ended: findings.has_ended,

@@ -66,8 +66,9 @@ impl Names<'_, '_> {
             tree: self.subject.tree,
             tables: self.subject.tables,
             snapshot: &found.snapshot,
+            servers: self.subject.servers,
         };
-        page.bytes(&reasons(self.alloc, source)?);
+        page.bytes(&reasons(self.alloc, source, None, &[])?);
         Ok(())
     }
 

@@ -12,12 +12,14 @@ use Rattle.cp_model_machine.specs.Machines.{first_machine, first_part, first_par
 use Rattle.cp_law_calls.specs.Ways.{Late}
 use Rattle.cp_law_cores.specs.Clocks.{is_timeless}
 use Rattle.cp_law_cores.specs.Cores.{Core, close, core, silent}
-use Rattle.cp_law_cores.specs.Laws.{AreFine, first_core}
+use Rattle.cp_law_cores.specs.Laws.{first_core}
 use Rattle.cp_law_cores.specs.Turns.{AreSilent}
 use Rattle.cp_law_cores.proofs.Parts.{from_map, none_is}
 use Rattle.cp_law_search.specs.Calls.{move_at, way_at}
-use Rattle.cp_law_exploring.specs.Laws.{ExpandedReports, FirstIsClosed}
+use Rattle.cp_law_exploring.specs.Laws.{FirstIsClosed}
 use Rattle.cp_law_exploring.specs.Exploring.{AreQuiescent, AreExpanded, Grows, IsCoveredBelow, LeadsInto, SettlesQuietly, SettlesAs, count}
+use Rattle.cp_law_servers.specs.Laws.{ExpandedReportsServed}
+use Rattle.cp_law_servers.specs.Servers.{AreServed}
 use Rattle.cp_search_states.specs.SearchStates.{core_of}
 use Rattle.cp_search_states.specs.Sameness.{IsFine}
 use Rattle.cp_search_states.specs.declared.state.SearchState.{SearchState}
@@ -118,11 +120,11 @@ first_is_silent program inputs c is = subst AreSilent (sym is) (record {
 
 -- ---- What it shows
 
-pub nothing_stuck : (program : Program) (inputs : ℕ → List ℕ) (start first : SearchState) (none store new : Store)
-    → FirstIsClosed → ExpandedReports → is_timeless program ≡ true
+pub nothing_stuck : (servers : List ℕ) (program : Program) (inputs : ℕ → List ℕ) (start first : SearchState) (none store new : Store)
+    → FirstIsClosed → ExpandedReportsServed → is_timeless program ≡ true
     → core_of inputs start ≡ core (first_machine program 1 inputs) → SettlesQuietly program (close program (core_of inputs start)) (core_of inputs first)
-    → IsAdded none first store → HasExplored program inputs store new → AreFine (count program) (cores_of inputs new) → NothingIsStuck program inputs
-nothing_stuck program inputs start first none store new closed reports timeless starts rests added explored fine = record {
+    → IsAdded none first store → HasExplored program inputs store new → AreServed servers (count program) (cores_of inputs new) → NothingIsStuck servers program inputs
+nothing_stuck servers program inputs start first none store new closed reports timeless starts rests added explored fine = record {
   fine = λ setup represents given.
       let begins : close program (core_of inputs start) ≡ first_core program setup =
       ap (close program) (starts ∙ same_first program setup inputs represents given) ∙ closed program setup in
@@ -131,7 +133,7 @@ nothing_stuck program inputs start first none store new closed reports timeless 
         known = added.known inputs;
         settles = subst (λ x. SettlesAs program x (core_of inputs first)) begins rests.settles;
       } in
-      reports program setup (cores_of inputs new) represents timeless explored.all (leads_grown program (cores_of inputs store) (cores_of inputs new) _ explored.grows leads) fine;
+      reports servers program setup (cores_of inputs new) represents timeless explored.all (leads_grown program (cores_of inputs store) (cores_of inputs new) _ explored.grows leads) fine;
 }
 
 pub none_rest : (inputs : ℕ → List ℕ) (store : Store) → cores_of inputs store ≡ [] → AreQuiescent (cores_of inputs store)
@@ -139,23 +141,23 @@ none_rest inputs store is = subst AreQuiescent (sym is) (record { each = λ i v 
 
 -- ---- Fine states
 
-pub record AreFineBelow (n : ℕ) (store : Store) (i : ℕ) : Type 0 where
-  pub each : (j : ℕ) → j < i → (inputs : ℕ → List ℕ) → IsFine n (core_at inputs store j)
+pub record AreFineBelow (servers : List ℕ) (n : ℕ) (store : Store) (i : ℕ) : Type 0 where
+  pub each : (j : ℕ) → j < i → (inputs : ℕ → List ℕ) → IsFine servers n (core_at inputs store j)
 
-pub fine_none : (n : ℕ) (store : Store) → AreFineBelow n store 0
-fine_none n store = record { each = λ j less. absurd (omega (arith, less)) }
+pub fine_none : (servers : List ℕ) (n : ℕ) (store : Store) → AreFineBelow servers n store 0
+fine_none servers n store = record { each = λ j less. absurd (omega (arith, less)) }
 
-pub fine_more : (n : ℕ) (store : Store) (i : ℕ) → ((inputs : ℕ → List ℕ) → IsFine n (core_at inputs store i)) → AreFineBelow n store i → AreFineBelow n store (i + 1)
-fine_more n store i fine was = record { each = λ j less inputs. by j less inputs (nat_eq j i) refl }
+pub fine_more : (servers : List ℕ) (n : ℕ) (store : Store) (i : ℕ) → ((inputs : ℕ → List ℕ) → IsFine servers n (core_at inputs store i)) → AreFineBelow servers n store i → AreFineBelow servers n store (i + 1)
+fine_more servers n store i fine was = record { each = λ j less inputs. by j less inputs (nat_eq j i) refl }
   where
-    by : (j : ℕ) → j < i + 1 → (inputs : ℕ → List ℕ) → (b : Bool) → nat_eq j i ≡ b → IsFine n (core_at inputs store j)
-    by j less inputs true g = subst (λ (k : ℕ). IsFine n (core_at inputs store k)) (sym (eqb-true j i g)) (fine inputs)
+    by : (j : ℕ) → j < i + 1 → (inputs : ℕ → List ℕ) → (b : Bool) → nat_eq j i ≡ b → IsFine servers n (core_at inputs store j)
+    by j less inputs true g = subst (λ (k : ℕ). IsFine servers n (core_at inputs store k)) (sym (eqb-true j i g)) (fine inputs)
     by j less inputs false g = let apart = eqb-false j i g in was.each j (omega (arith, less, apart)) inputs
 
-pub fine_all : (n : ℕ) (store : Store) (inputs : ℕ → List ℕ) → AreFineBelow n store (state_count store) → AreFine n (cores_of inputs store)
-fine_all n store inputs all = record { sound = λ c known. (at c known).sound; ended = λ c known. (at c known).ended }
+pub fine_all : (servers : List ℕ) (n : ℕ) (store : Store) (inputs : ℕ → List ℕ) → AreFineBelow servers n store (state_count store) → AreServed servers n (cores_of inputs store)
+fine_all servers n store inputs all = record { sound = λ c known. (at c known).sound; done = λ c known. (at c known).done }
   where
-    at : (c : Core) → Contains (cores_of inputs store) c → IsFine n c
+    at : (c : Core) → Contains (cores_of inputs store) c → IsFine servers n c
     at c known =
         let vs = cores_of inputs store in
         let count = cores_count inputs store in
@@ -163,4 +165,4 @@ fine_all n store inputs all = record { sound = λ c known. (at c known).sound; e
         let below : known.0 < state_count store = omega (arith, count, within) in
         let got : slice_get vs known.0 ≡ Some c = slice_get-get_or vs known.0 c known.1 ∙ ap (λ (z : Core). Some z) known.2 in
         let same : core_at inputs store known.0 ≡ c = same_some (core_at inputs store known.0) c (sym (cores_at inputs store known.0 below) ∙ got) in
-        subst (IsFine n) same (all.each known.0 below inputs)
+        subst (IsFine servers n) same (all.each known.0 below inputs)

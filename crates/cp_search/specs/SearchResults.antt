@@ -4,8 +4,8 @@ use Rattle.cp_model.specs.States.{Setup, process_count}
 use Rattle.cp_model_program.specs.Programs.{Program}
 use Rattle.cp_model_program.specs.IsProgramFor.{IsProgramFor}
 use Rattle.cp_law_cores.specs.Cores.{Core}
-use Rattle.cp_law_exploring.specs.Laws.{NoneIsStuck}
 use Rattle.cp_law_exploring.specs.Exploring.{AreQuiescent, AreExpanded, Grows, IsCoveredBelow, IsCovered, count}
+use Rattle.cp_law_servers.specs.Laws.{NoneIsStuckBut}
 use Rattle.cp_search_store.specs.States.{IsSound, cores_of}
 use Rattle.cp_search_store.specs.declared.store.Store.{Store}
 
@@ -32,6 +32,7 @@ pub record HasExplored (program : Program) (inputs : ℕ → List ℕ) (old new 
   pub all : AreExpanded program (cores_of inputs new) (length (cores_of inputs new))
 
 -- For each text that the program represents, with these inputs of its processes, no order of events
--- leads to a fault, and each still state that an order leads to is one in which all have ended.
-pub record NothingIsStuck (program : Program) (inputs : ℕ → List ℕ) : Type 0 where
-  pub fine : (setup : Setup) → IsProgramFor program setup → ((p : ℕ) → 1 ≤ p → p ≤ process_count setup → inputs p ≡ setup.inputs p) → NoneIsStuck setup
+-- leads to a fault. In each still state that an order leads to, each process has ended, or is a server
+-- and is delayed.
+pub record NothingIsStuck (servers : List ℕ) (program : Program) (inputs : ℕ → List ℕ) : Type 0 where
+  pub fine : (setup : Setup) → IsProgramFor program setup → ((p : ℕ) → 1 ≤ p → p ≤ process_count setup → inputs p ≡ setup.inputs p) → NoneIsStuckBut servers setup

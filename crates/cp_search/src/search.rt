@@ -13,6 +13,7 @@ use crate::kinds::{Kinds, kinds_of};
 use crate::notes::{Limits, Notes, Origin, Stop};
 use crate::space::{Space, are_fine};
 use cp_law_exploring::law;
+use cp_law_servers::law as served;
 use cp_program::program::Program;
 use cp_search_clock::timeless::is_timeless;
 use cp_search_states::settling::{advance, settle};
@@ -132,15 +133,17 @@ fn search_all<W: Watch>(
     alloc: Global,
     program: &Program,
     inputs: &[Vec<u8>],
+    servers: &[u32],
     space: &mut Space,
     watch: &W,
 ) -> Result<bool, AllocError>
     requires sound { IsSound space.old.store }
     requires none { (inputs : ℕ → List ℕ) → cores_of inputs space.old.store ≡ [] }
     ensures { IfOk result (λ fine. fine ≡ true
-        → NothingIsStuck (view.program program.now) (input_of inputs.now)) }
+        → NothingIsStuck servers.now (view.program program.now) (input_of inputs.now)) }
 {
     law::expanding();
+    served::searching();
     if !is_timeless(program) {
         space.notes.stop = Some(Stop::Clock);
         return Ok(false);
@@ -157,11 +160,11 @@ fn search_all<W: Watch>(
     if !explore(alloc, program, inputs, space, watch)? {
         return Ok(false);
     }
-    are_fine(program, &space.store, &mut space.state)
+    are_fine(program, servers, &space.store, &mut space.state)
 }
 
 /// Searches all schedules, breadth first. `inputs` has the inputs of the processes by number, from
-/// 1.
+/// 1. The servers, by their numbers, may wait forever.
 ///
 /// # Errors
 ///
@@ -170,18 +173,19 @@ pub fn search<W: Watch>(
     alloc: Global,
     program: &Program,
     inputs: &[Vec<u8>],
+    servers: &[u32],
     limits: Limits,
     watch: &W,
 ) -> Result<Explored, AllocError>
     ensures { IfOk result (λ explored. explored.is_fine ≡ true
-        → NothingIsStuck (view.program program.now) (input_of inputs.now)) }
+        → NothingIsStuck servers.now (view.program program.now) (input_of inputs.now)) }
 {
     let mut space = Space::new(alloc, program, limits);
-    let is_fine = search_all(alloc, program, inputs, &mut space, watch)?;
+    let is_fine = search_all(alloc, program, inputs, servers, &mut space, watch)?;
     Ok(Explored {
         states: space.store.len(),
         is_fine,
-        kinds: kinds_of(program, &mut space)?,
+        kinds: kinds_of(program, servers, &mut space)?,
         notes: space.notes,
     })
 }

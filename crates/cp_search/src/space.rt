@@ -2,8 +2,8 @@
 
 ghost use Rattle.std.specs.Prelude.{◌≡◌, ℕ, List, IfOk, [], true};
 ghost use Rattle.cp_program.specs.View as view;
-ghost use Rattle.cp_law_cores.specs.Laws.{AreFine};
 ghost use Rattle.cp_law_exploring.specs.Exploring.{count};
+ghost use Rattle.cp_law_servers.specs.Servers.{AreServed};
 ghost use Rattle.cp_search_store.specs.States.{cores_of, IsAdded, IsSound};
 
 use crate::notes::{Limits, Notes, Origin};
@@ -52,21 +52,22 @@ impl Space {
     }
 }
 
-/// Whether no state has a fault or is stuck. Only the answer `true` is proved to be right. It works
-/// on `state`.
+/// Whether no state has a fault or is stuck, if servers may wait forever. Only the answer `true` is
+/// proved to be right. It works on `state`.
 pub(crate) fn are_fine(
     program: &Program,
+    servers: &[u32],
     store: &Store,
     state: &mut SearchState,
 ) -> Result<bool, AllocError>
     ensures { IfOk result (λ fine. fine ≡ true → (inputs : ℕ → List ℕ)
-        → AreFine (count (view.program program.now)) (cores_of inputs store.now)) }
+        → AreServed servers.now (count (view.program program.now)) (cores_of inputs store.now)) }
 {
     for i in 0..store.len() {
         if !store.restore(i, state)? {
             return Ok(false);
         }
-        if !state.is_acceptable(program) {
+        if !state.is_acceptable(program, servers) {
             return Ok(false);
         }
     }

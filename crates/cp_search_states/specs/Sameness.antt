@@ -6,7 +6,8 @@ use Rattle.cp_model_program.specs.Programs.{Program}
 use Rattle.cp_model_machine.specs.Machines.{first_part}
 use Rattle.cp_model_machine.specs.PrivateStates.{Activity}
 use Rattle.cp_law_cores.specs.Cores.{Core, part}
-use Rattle.cp_law_cores.specs.Verdicts.{can_move, core_has_ended, core_is_sound, core_is_still, part_passes}
+use Rattle.cp_law_cores.specs.Verdicts.{can_move, core_is_sound, core_is_still, part_passes}
+use Rattle.cp_law_servers.specs.Servers.{core_is_done, part_is_done}
 use Rattle.cp_private.specs.States.{private_of}
 use Rattle.cp_private.specs.declared.private.Private.{Private}
 use Rattle.cp_kernel.specs.KernelOf.{kernel_of}
@@ -32,6 +33,10 @@ AreFirst program xs =
 pub record AllPass (test : Activity → Bool) (n : ℕ) (x : SearchState) : Type 0 where
   pub each : (inputs : ℕ → List ℕ) (p : ℕ) → 1 ≤ p → p ≤ n → part_passes test (part (core_of inputs x).parts p) ≡ true
 
+-- The first n processes are done, if servers may wait forever.
+pub record AllDone (servers : List ℕ) (n : ℕ) (x : SearchState) : Type 0 where
+  pub each : (inputs : ℕ → List ℕ) (p : ℕ) → 1 ≤ p → p ≤ n → part_is_done servers (kernel_of x.kernel) (part (core_of inputs x).parts p) ≡ true
+
 -- One of the first n processes can move.
 pub record OneMoves (n : ℕ) (x : SearchState) : Type 0 where
   pub process : ℕ
@@ -39,7 +44,7 @@ pub record OneMoves (n : ℕ) (x : SearchState) : Type 0 where
   pub last : process ≤ n
   pub moves : (inputs : ℕ → List ℕ) → can_move (kernel_of x.kernel) (part (core_of inputs x).parts process) ≡ true
 
--- Nobody has faulted, and if nobody can move, all have ended.
-pub record IsFine (n : ℕ) (c : Core) : Type 0 where
+-- Nobody has faulted, and if nobody can move, all are done.
+pub record IsFine (servers : List ℕ) (n : ℕ) (c : Core) : Type 0 where
   pub sound : core_is_sound n c ≡ true
-  pub ended : core_is_still n c ≡ true → core_has_ended n c ≡ true
+  pub done : core_is_still n c ≡ true → core_is_done servers n c ≡ true

@@ -1,4 +1,4 @@
-//! Whether a state is neither faulted nor stuck.
+//! Whether a state is neither faulted nor stuck, if servers may wait forever.
 
 ghost use Rattle.std.specs.Prelude.{◌≡◌, ◌≤◌, ◌-◌, ℕ, Bool, List, true, false, Some, option_map};
 ghost use Rattle.cp_model_machine.specs.KernelSteps.{stage_of};
@@ -9,8 +9,9 @@ ghost use Rattle.cp_private.specs.States.{private_of};
 ghost use Rattle.cp_kernel.specs.KernelOf.{kernel_of};
 ghost use Rattle.cp_program.specs.View as view;
 ghost use Rattle.cp_law_exploring.specs.Exploring.{count};
+ghost use Rattle.cp_law_servers.specs.Servers as served;
 ghost use Rattle.cp_search_states.specs.SearchStates.{core_of};
-ghost use Rattle.cp_search_states.specs.Sameness.{AllPass, IsFine, OneMoves};
+ghost use Rattle.cp_search_states.specs.Sameness.{AllDone, AllPass, IsFine, OneMoves};
 
 use crate::state::SearchState;
 use cp_kernel::kernel::Kernel;
@@ -53,6 +54,28 @@ fn can_move(kernel: &Kernel, private: &Private) -> bool
     moves(kernel.stage(private.number() as u32), private.activity())
 }
 
+// Whether a process with this number, stage and activity has ended, or is a server and is delayed.
+fn is_done_at(servers: &[u32], number: u32, stage: SchedulingState, activity: Activity) -> bool
+    ensures { result ≡ served.is_done_at servers.now number (views.stage stage)
+        (views.activity activity) }
+{
+    if has_ended(activity) {
+        return true;
+    }
+    match stage {
+        SchedulingState::Delayed { .. } => servers.contains(&number),
+        _ => false,
+    }
+}
+
+fn is_done(servers: &[u32], kernel: &Kernel, private: &Private) -> bool
+    ensures { (input : List ℕ) → result ≡ served.part_is_done servers.now (kernel_of kernel.now)
+        (Some (private_of private.now input)) }
+{
+    let number = private.number() as u32;
+    is_done_at(servers, number, kernel.stage(number), private.activity())
+}
+
 impl SearchState {
     /// The private state of process p, if there is one.
     pub fn private(&self, p: usize) -> Option<&Private>
@@ -77,13 +100,13 @@ impl SearchState {
         }
     }
 
-    fn has_ended_at(&self, p: usize) -> bool
+    fn is_done_at(&self, servers: &[u32], p: usize) -> bool
         requires { 1 ≤ p }
-        ensures { (inputs : ℕ → List ℕ) → result ≡ plain.part_passes plain.is_end
-            (part (core_of inputs self.now).parts p) }
+        ensures { (inputs : ℕ → List ℕ) → result ≡ served.part_is_done servers.now
+            (kernel_of self.now.kernel) (part (core_of inputs self.now).parts p) }
     {
         match self.private(p) {
-            Some(private) => has_ended(private.activity()),
+            Some(private) => is_done(servers, &self.kernel, private),
             None => true,
         }
     }
@@ -112,13 +135,14 @@ impl SearchState {
         true
     }
 
-    /// Whether all have ended. Only the answer `true` is proved to be right.
-    pub fn has_ended(&self, program: &Program) -> bool
-        ensures { result ≡ true → AllPass plain.is_end (count (view.program program.now))
+    /// Whether each has ended, or is a server and is delayed. Only the answer `true` is proved to be
+    /// right.
+    pub fn is_done(&self, program: &Program, servers: &[u32]) -> bool
+        ensures { result ≡ true → AllDone servers.now (count (view.program program.now))
             self.now }
     {
         for i in 0..program.processes() {
-            if !self.has_ended_at(i + 1) {
+            if !self.is_done_at(servers, i + 1) {
                 return false;
             }
         }
@@ -137,15 +161,15 @@ impl SearchState {
         false
     }
 
-    /// Whether nobody has a fault, and somebody can move or all have ended. Only the answer `true`
-    /// is proved to be right.
-    pub fn is_acceptable(&self, program: &Program) -> bool
+    /// Whether nobody has a fault, and somebody can move or all are done. Only the answer `true` is
+    /// proved to be right.
+    pub fn is_acceptable(&self, program: &Program, servers: &[u32]) -> bool
         ensures { result ≡ true → (inputs : ℕ → List ℕ)
-            → IsFine (count (view.program program.now)) (core_of inputs self.now) }
+            → IsFine servers.now (count (view.program program.now)) (core_of inputs self.now) }
     {
         if !self.is_sound(program) {
             return false;
         }
-        self.has_ended(program) || self.proceeds(program)
+        self.is_done(program, servers) || self.proceeds(program)
     }
 }

@@ -1,9 +1,9 @@
 //! Explanations of texts.
 
-use crate::opening::open_named;
-use crate::printing::flush;
-use crate::status::Failure;
 use cp_base_config::explaining::{Explaining, Form};
+use cp_cli_sources::failure::Failure;
+use cp_cli_sources::opening::open_named;
+use cp_cli_sources::printing::flush;
 use cp_cli_terminal::painter::Painter;
 use cp_explain::asked::explain_as;
 use cp_frontend::refusal::{Refusal, exit_of};

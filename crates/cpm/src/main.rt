@@ -2,29 +2,21 @@
 //! files that they name, and prints what was asked for.
 //!
 //! - `perform`: which command does what.
-//! - `opening`: what a command reads, by name: a file, standard input, or bytes in memory.
-//! - `inputs`: the text and the inputs of a run. `locating`: where a text is refused.
 //! - `running`: checks, runs, outcomes, traces and replays. `searching`: searches. `explaining`:
 //!   explanations.
-//! - `printing`: standard output. `status`: why a command has no result, and the exit statuses.
 //!
-//! `specs/Sources.antt` defines what is left to read.
+//! cp_cli_sources opens what commands read, and says why a command has no result.
 #![tactic(auto)]
 
 mod explaining;
-mod inputs;
-mod locating;
-mod opening;
 mod perform;
-mod printing;
 mod running;
 mod searching;
-mod status;
 
 use crate::perform::perform;
-use crate::status::{Failure, USAGE};
 use cp_cli::command::{Command, CommandError};
 use cp_cli::reading::read_command;
+use cp_cli_sources::failure::{Failure, USAGE};
 use cp_frontend::refusal::Refusal;
 use std::env::VarError;
 use std::io::IsTerminal;

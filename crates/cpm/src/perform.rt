@@ -1,12 +1,12 @@
 //! Which command does what.
 
 use crate::explaining::explain;
-use crate::locating::located;
-use crate::printing::{Screen, print_completions, print_page, print_version};
 use crate::running::{check, outcome, replay, run, trace};
 use crate::searching::search;
-use crate::status::Failure;
 use cp_cli::command::Command;
+use cp_cli_sources::failure::Failure;
+use cp_cli_sources::locating::located;
+use cp_cli_sources::printing::{Screen, print_bytes, print_completions, print_version};
 use cp_outcome::status::status_of;
 use std::alloc::Global;
 use std::fs::Files;
@@ -24,8 +24,9 @@ use std::thread::Threads;
 /// # Errors
 ///
 /// `NoFile` if a file can't be opened, `Unopened` or `Unread` for the file of `explain` and the input of
-/// one process, `Input` if such inputs make no input or the text lacks the process of `--out`,
-/// `NoMember` if a name of a trace is unknown, `Unsaved` if a schedule can't be saved, and the refusals
+/// one process, `Input` if such inputs make no input or the text lacks a process of `--out` or
+/// `--servers`, `NoMember` if a name of a trace is unknown, `NoVariable` if one of `--show` is,
+/// `Unsaved` if a schedule can't be saved, and the refusals
 /// of `execute` and `execute_order` of cp_execute, of `execute_outcome` and `execute_trace` of
 /// cp_execute_observe, of `execute_search`, and of `explain_text`, `explain_all_text` and
 /// `explain_object` of cp_explain.
@@ -47,7 +48,7 @@ pub(crate) fn perform<
         Command::Explain { file, what } => {
             return explain(rt, alloc, file, *what, colours, errors);
         }
-        Command::ExplainRule { page } => print_page(rt, page)?,
+        Command::ExplainRule { page } => print_bytes(rt, page.as_bytes())?,
         Command::Run {
             file,
             run: how,
@@ -57,7 +58,8 @@ pub(crate) fn perform<
         Command::Outcome {
             file,
             how,
-            form,
+            servers,
+            shown,
             input,
             progress,
         } => {
@@ -65,7 +67,7 @@ pub(crate) fn perform<
                 progress: *progress,
                 colours,
             };
-            return match outcome(rt, alloc, file, input, how, *form, screen) {
+            return match outcome(rt, alloc, file, input, how, servers, shown, screen) {
                 Ok(verdict) => Ok(status_of(verdict)),
                 Err(failure) => Err(located(rt, alloc, file, failure)),
             };
@@ -84,6 +86,7 @@ pub(crate) fn perform<
         Command::Search {
             file,
             how,
+            servers,
             save,
             input,
             progress,
@@ -92,7 +95,7 @@ pub(crate) fn perform<
                 progress: *progress,
                 colours,
             };
-            return match search(rt, alloc, file, input, *how, *save, screen) {
+            return match search(rt, alloc, file, input, servers, *how, *save, screen) {
                 Ok(status) => Ok(status),
                 Err(failure) => Err(located(rt, alloc, file, failure)),
             };

@@ -2,16 +2,17 @@
 //! it, and prints its result. Errors are those of opening, of joining inputs, and of the calls of
 //! cp_execute and cp_execute_observe.
 
-use crate::inputs::{Sources, open_inputs, open_sources};
-use crate::opening::{Source, open, read_bytes};
-use crate::printing::{Screen, flush, flushed};
-use crate::status::Failure;
 use cp_base_config::outcome::{OutcomeForm, UntilStill};
 use cp_base_config::run::{Replay, Run};
 use cp_base_config::trace::Tracing;
-use cp_cli::command::{Inputs, STANDARD_INPUT};
-use cp_cli_inputs::named::{process_number, unknown_name};
+use cp_cli::command::{Inputs, STANDARD_INPUT, Shown};
+use cp_cli_inputs::named::{unknown_name, unknown_variable};
 use cp_cli_progress::Progress;
+use cp_cli_sources::failure::Failure;
+use cp_cli_sources::inputs::{Sources, numbers_of, open_inputs, open_sources};
+use cp_cli_sources::judging::open_judged;
+use cp_cli_sources::opening::{Source, open, read_bytes};
+use cp_cli_sources::printing::{Screen, flush, flushed};
 use cp_cli_terminal::painter::Painter;
 use cp_execute::execute::{Job, execute};
 use cp_execute::execute_order::execute_order;
@@ -70,31 +71,14 @@ pub(crate) fn run<'a, H: Clock + Eprint + Files + Input + Print + Threads + Wait
     Ok(())
 }
 
-// The number of the process of a text with this name. The bytes of the text are put in the place of
-// their source.
-fn number_of<'a, F: Read + Drop, I: Read + Drop>(
-    alloc: Global,
-    text: &mut Source<F, I>,
-    name: &'a str,
-) -> Result<u32, Failure<'a>> {
-    let bytes = read_bytes(alloc, text)?;
-    let number = process_number(alloc, &bytes, name)?;
-    *text = Source::of_bytes(bytes);
-    Ok(number)
-}
-
-// The form of an outcome, with the process by its number.
-fn numbered<'a, F: Read + Drop, I: Read + Drop>(
-    alloc: Global,
-    text: &mut Source<F, I>,
-    form: OutcomeForm<&'a str>,
-) -> Result<OutcomeForm<u32>, Failure<'a>> {
-    Ok(match form {
+// The form of an outcome, with the numbers of the processes whose transcripts are wanted.
+fn numbered(form: OutcomeForm<()>, processes: &[u32]) -> OutcomeForm<&[u32]> {
+    match form {
         OutcomeForm::Verdict => OutcomeForm::Verdict,
-        OutcomeForm::Transcript(name) => OutcomeForm::Transcript(number_of(alloc, text, name)?),
+        OutcomeForm::Transcript(()) => OutcomeForm::Transcript(processes),
         OutcomeForm::Dot => OutcomeForm::Dot,
         OutcomeForm::Json => OutcomeForm::Json,
-    })
+    }
 }
 
 // Runs a text until nothing can move, and prints the outcome.
@@ -104,31 +88,57 @@ fn print_outcome<H: Clock + Eprint + Print + Threads + Wait + Sync, R: Read, S: 
     text: &mut R,
     input: &mut S,
     how: &UntilStill,
-    form: OutcomeForm<u32>,
+    servers: &[u32],
+    form: OutcomeForm<&[u32]>,
+    show: &[&str],
     screen: Screen,
 ) -> Result<Verdict, Refusal> {
     let progress = Progress::of(rt, screen.progress);
     let is_painting = screen.colours && matches!(form, OutcomeForm::Verdict);
     let mut out = progress.beside(Painter::new(alloc, io::writer(rt), is_painting));
-    let reported = execute_outcome(rt, alloc, text, input, how, form, &progress, &mut out);
+    let reported = execute_outcome(
+        rt, alloc, text, input, how, servers, form, show, &progress, &mut out,
+    );
     progress.erase();
     flushed(reported, &mut out)
 }
 
-/// Runs a text until nothing can move, prints the outcome, and returns the verdict.
+// Opens the text and the inputs of an outcome. An object says so if the text is refused.
+fn open_outcome<'a, H: Files + Input + Print>(
+    rt: &H,
+    alloc: Global,
+    file: &'a str,
+    input: &Inputs<'a>,
+    form: OutcomeForm<()>,
+) -> Result<Sources<H::File, H::Reader>, Failure<'a>> {
+    match form {
+        OutcomeForm::Json => open_judged(rt, alloc, file, input),
+        _ => open_sources(rt, alloc, file, input),
+    }
+}
+
+/// Runs a text until nothing can move, prints what is to be shown, and returns the verdict. The
+/// processes with the names in `servers` may wait forever.
 pub(crate) fn outcome<'a, H: Clock + Eprint + Files + Input + Print + Threads + Wait + Sync>(
     rt: &H,
     alloc: Global,
     file: &'a str,
     input: &Inputs<'a>,
     how: &UntilStill,
-    form: OutcomeForm<&'a str>,
+    servers: &[&'a str],
+    shown: &Shown<'a>,
     screen: Screen,
 ) -> Result<Verdict, Failure<'a>> {
-    let mut read = open_sources(rt, alloc, file, input)?;
-    let form = numbered(alloc, &mut read.text, form)?;
+    let mut read = open_outcome(rt, alloc, file, input, shown.form)?;
+    let servers = numbers_of(alloc, &mut read.text, servers)?;
+    let numbers = numbers_of(alloc, &mut read.text, &shown.processes)?;
+    if !shown.variables.is_empty() {
+        find_variables(alloc, &mut read.text, &shown.variables)?;
+    }
+    let form = numbered(shown.form, &numbers);
     let Sources { text, input } = &mut read;
-    let verdict = print_outcome(rt, alloc, text, input, how, form, screen)?;
+    let show = &shown.variables;
+    let verdict = print_outcome(rt, alloc, text, input, how, &servers, form, show, screen)?;
     Ok(verdict)
 }
 
@@ -142,6 +152,21 @@ fn find_names<'a, F: Read + Drop, I: Read + Drop>(
     let bytes = read_bytes(alloc, text)?;
     if let Some(name) = unknown_name(alloc, &bytes, names)? {
         return Err(Failure::NoMember { name });
+    }
+    *text = Source::of_bytes(bytes);
+    Ok(())
+}
+
+// Reads the text, and puts its bytes in the place of their source, if it has variables with all of
+// these names.
+fn find_variables<'a, F: Read + Drop, I: Read + Drop>(
+    alloc: Global,
+    text: &mut Source<F, I>,
+    names: &[&'a str],
+) -> Result<(), Failure<'a>> {
+    let bytes = read_bytes(alloc, text)?;
+    if let Some(name) = unknown_variable(alloc, &bytes, names)? {
+        return Err(Failure::NoVariable { name });
     }
     *text = Source::of_bytes(bytes);
     Ok(())

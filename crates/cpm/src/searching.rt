@@ -1,12 +1,13 @@
 //! Searches: what all schedules of a text lead to, and the files of the schedules that are found.
 //! Everything that is read is opened before any of it is read.
 
-use crate::inputs::{Sources, open_sources};
-use crate::printing::{Screen, flushed};
-use crate::status::Failure;
 use cp_base_config::search::{SearchForm, Searching};
 use cp_cli::command::Inputs;
 use cp_cli_progress::Progress;
+use cp_cli_sources::failure::Failure;
+use cp_cli_sources::inputs::{Sources, numbers_of, open_sources};
+use cp_cli_sources::judging::open_judged;
+use cp_cli_sources::printing::{Screen, flushed};
 use cp_cli_terminal::painter::Painter;
 use cp_execute_search::execute_search::{Searched, execute_search};
 use cp_execute_search::verdict::status_of;
@@ -62,29 +63,32 @@ fn print_search<H: Clock + Eprint + Print, R: Read, S: Read>(
     alloc: Global,
     text: &mut R,
     input: &mut S,
+    servers: &[u32],
     how: Searching,
     screen: Screen,
 ) -> Result<Searched, Refusal> {
     let progress = Progress::of(rt, screen.progress);
     let is_painting = screen.colours && matches!(how.form, SearchForm::Lines);
     let mut out = progress.beside(Painter::new(alloc, io::writer(rt), is_painting));
-    let done = execute_search(alloc, text, input, how, &progress, &mut out);
+    let done = execute_search(alloc, text, input, servers, how, &progress, &mut out);
     progress.erase();
     flushed(done, &mut out)
 }
 
 /// Searches a text, prints what was found, and returns the exit status. Then it writes each schedule
-/// that was found to a file, if names for these are asked for.
+/// that was found to a file, if names for these are asked for. The processes with the names in
+/// `servers` may wait forever.
 ///
 /// # Errors
 ///
-/// Those of opening and joining inputs and of `execute_search`, and `Unsaved` if a file can't be
-/// written.
+/// Those of opening and joining inputs, of `numbers_of` and of `execute_search`, and `Unsaved` if a
+/// file can't be written.
 pub(crate) fn search<'a, H: Clock + Eprint + Files + Input + Print>(
     rt: &H,
     alloc: Global,
     file: &'a str,
     input: &Inputs<'a>,
+    servers: &[&'a str],
     how: Searching,
     save: Option<&'a str>,
     screen: Screen,
@@ -93,9 +97,13 @@ pub(crate) fn search<'a, H: Clock + Eprint + Files + Input + Print>(
         Some(name) => Some(Names::of(alloc, name)?),
         None => None,
     };
-    let mut read = open_sources(rt, alloc, file, input)?;
+    let mut read = match how.form {
+        SearchForm::Json => open_judged(rt, alloc, file, input)?,
+        SearchForm::Lines => open_sources(rt, alloc, file, input)?,
+    };
+    let servers = numbers_of(alloc, &mut read.text, servers)?;
     let Sources { text, input } = &mut read;
-    let searched = print_search(rt, alloc, text, input, how, screen)?;
+    let searched = print_search(rt, alloc, text, input, &servers, how, screen)?;
     if let Some(names) = names {
         names.save(rt, &searched.findings)?;
     }

@@ -88,11 +88,11 @@ returns-in_err-outcome-clause-input g c =
 pub returns-in_err-write_result-clause-beginning : goal.returns-in_err-write_result-clause-beginning
 returns-in_err-write_result-clause-beginning g c =
     let p = err_from_is_err_and c.from_residual-in_err-write_result.result c.from_residual-in_err-write_result.ensures.1 in
-    let made : IsOutcome c.args.how.now c.args.form (view.tree c.in_ok-accepted.accepted.tree) c.in_ok-bytes.bytes.items c.in_ok-outcome.outcome.verdict c.in_ok-outcome.outcome.bytes.items =
+    let made : IsOutcome c.args.how.now c.args.servers.now c.args.form (view.tree c.in_ok-accepted.accepted.tree) c.in_ok-bytes.bytes.items c.in_ok-outcome.outcome.verdict c.in_ok-outcome.outcome.bytes.items =
     rw c.deref.ensures.value at c.in_ok-outcome.ensures.outcome in
     rw (p.1, p.2) (λ write. (
       c.in_ok-outcome.outcome.verdict,
-      outcome_due c.args.how.now c.args.form c.in_ok-outcome.outcome.verdict (g.R.Read.remaining c.args.text.now) (g.S.Read.remaining c.args.input.now) (view.tree c.in_ok-accepted.accepted.tree) c.in_ok-bytes.bytes.items
+      outcome_due c.args.how.now c.args.servers.now c.args.form c.in_ok-outcome.outcome.verdict (g.R.Read.remaining c.args.text.now) (g.S.Read.remaining c.args.input.now) (view.tree c.in_ok-accepted.accepted.tree) c.in_ok-bytes.bytes.items
           c.in_ok-outcome.outcome.bytes.items _ c.in_ok-accepted.ensures.text c.in_ok-bytes.ensures.input c.in_ok-bytes.ensures.judged made
           (rw c.deref-2.ensures.value at c.in_err-write_result.ensures.beginning),
     ))
@@ -101,7 +101,7 @@ returns-in_err-write_result-clause-beginning g c =
 
 pub returns-clause-done : goal.returns-clause-done
 returns-clause-done g c =
-    let made : IsOutcome c.args.how.now c.args.form (view.tree c.in_ok-accepted.accepted.tree) c.in_ok-bytes.bytes.items c.in_ok-outcome.outcome.verdict c.in_ok-outcome.outcome.bytes.items =
+    let made : IsOutcome c.args.how.now c.args.servers.now c.args.form (view.tree c.in_ok-accepted.accepted.tree) c.in_ok-bytes.bytes.items c.in_ok-outcome.outcome.verdict c.in_ok-outcome.outcome.bytes.items =
     rw c.deref.ensures.value at c.in_ok-outcome.ensures.outcome in
-    outcome_due c.args.how.now c.args.form c.in_ok-outcome.outcome.verdict (g.R.Read.remaining c.args.text.now) (g.S.Read.remaining c.args.input.now) (view.tree c.in_ok-accepted.accepted.tree) c.in_ok-bytes.bytes.items
+    outcome_due c.args.how.now c.args.servers.now c.args.form c.in_ok-outcome.outcome.verdict (g.R.Read.remaining c.args.text.now) (g.S.Read.remaining c.args.input.now) (view.tree c.in_ok-accepted.accepted.tree) c.in_ok-bytes.bytes.items
     c.in_ok-outcome.outcome.bytes.items _ c.in_ok-accepted.ensures.text c.in_ok-bytes.ensures.input c.in_ok-bytes.ensures.judged made (rw c.deref-2.ensures.value at c.in_ok-write_result.ensures.whole)

@@ -8,4 +8,4 @@ returns-clause-outcome g c =
     let t = view.tree c.args.text.now.tree in
     let input = c.args.input.now in
     let begun = c.in_ok-machine.ensures.state t c.in_ok-compiled.ensures.program in
-    IfOk-weaker c.outcome_of.result _ (λ o. IsOutcome c.args.how.now c.args.form t input o.verdict o.bytes.items) (λ o made. made t input begun) c.outcome_of.ensures.outcome
+    IfOk-weaker c.outcome_of.result _ (λ o. IsOutcome c.args.how.now c.args.servers.now c.args.form t input o.verdict o.bytes.items) (λ o made. made t input begun) c.outcome_of.ensures.outcome

@@ -28,6 +28,6 @@ returns c =
     let t = view.tree c.args.text.now.tree in
     let represents : IsProgramFor (program_view.program c.args.compiled.program) (setup_of t [] 1) = c.requires.program (setup_of t [] 1) refl in
     if_ok c.replay_machine.result
-    (λ o reached. order_leads c.args.kind t c.args.input.now c.args.order.now c.processes.result (rounds_of c.in-Ok.orders) c.in_ok-machine.machine o (c.processes.ensures ∙ represents.process_rows)
+    (λ o reached. order_leads c.args.kind c.args.servers.now t c.args.input.now c.args.order.now c.processes.result (rounds_of c.in-Ok.orders) c.in_ok-machine.machine o (c.processes.ensures ∙ represents.process_rows)
     c.in-Ok.ensures.ok (c.in_ok-machine.ensures.state t c.requires.program) reached)
     c.replay_machine.ensures

@@ -9,4 +9,4 @@ returns g c saw t is =
     let all = c.in_ok-inputs.inputs.items in
     let parts = subst (λ n. AreParts input n all) c.processes.ensures c.in_ok-inputs.ensures.parts in
     let fine = c.stop_of.ensures saw.all (c.in_ok-stuck.ensures saw.stuck) (c.in_ok-fault.ensures saw.fault) in
-    fine_in_text c.args.program.now t input all is parts ((rw c.deref.ensures.value at c.in_ok-explored.ensures) fine)
+    fine_in_text c.args.servers.now c.args.program.now t input all is parts ((rw c.deref.ensures.value at c.in_ok-explored.ensures) fine)

@@ -24,8 +24,8 @@ returns g c =
     let inputs = input_of c.args.inputs.now in
     IfOk-weaker c.are_fine.result _ _
     (λ done fine e.
-    nothing_stuck program inputs c.in_ok-space.field-0 c.settle.new.state c.args.space.now.store c.add.new.self.store c.explore.new.space.store
-    c.expanding.ensures.first c.expanding.ensures.reports (c.is_timeless.ensures c.if-not-is_timeless.false)
+    nothing_stuck c.args.servers.now program inputs c.in_ok-space.field-0 c.settle.new.state c.args.space.now.store c.add.new.self.store c.explore.new.space.store
+    c.expanding.ensures.first c.searching.ensures.reports (c.is_timeless.ensures c.if-not-is_timeless.false)
     (c.in_ok-space.ensures 1 inputs) (c.in_ok-settle.ensures c.if-not-branch.false) (c.in_ok-add.ensures c.if-not-branch-2.false)
     (c.in_ok-explore.ensures c.if-not-branch-3.false) (fine e inputs))
     c.are_fine.ensures

@@ -7,13 +7,13 @@ use Rattle.cp_search.proofs.Searched.{AreFineBelow, fine_all, fine_more, fine_no
 use Rattle.cp_search.proofs.space.are_fine.Goals as goal
 
 pub loop-i-init : goal.loop-i-init
-loop-i-init c = fine_none (count (view.program c.args.program.now)) c.args.store.now
+loop-i-init c = fine_none c.args.servers.now (count (view.program c.args.program.now)) c.args.store.now
 
 pub loop-i-preserved : goal.loop-i-preserved
 loop-i-preserved c =
     let n = count (view.program c.args.program.now) in
-    fine_more n c.args.store.now c.loop-i.i
-    (λ inputs. subst (IsFine n) (c.in_ok-restore.ensures c.if-not-branch.false inputs) (c.is_acceptable.ensures c.if-not-is_acceptable.false inputs))
+    fine_more c.args.servers.now n c.args.store.now c.loop-i.i
+    (λ inputs. subst (IsFine c.args.servers.now n) (c.in_ok-restore.ensures c.if-not-branch.false inputs) (c.is_acceptable.ensures c.if-not-is_acceptable.false inputs))
     c.loop-i.invariant
 
 pub returns : goal.returns
@@ -22,4 +22,4 @@ returns c = λ e inputs.
     let bound = c.loop-i.auto.i-end in
     let n = count (view.program c.args.program.now) in
     let end : c.loop-i.i ≡ state_count c.args.store.now = omega (arith, past, bound, c.len-i-end.ensures) in
-    fine_all n c.args.store.now inputs (subst (AreFineBelow n c.args.store.now) end c.loop-i.invariant)
+    fine_all c.args.servers.now n c.args.store.now inputs (subst (AreFineBelow c.args.servers.now n c.args.store.now) end c.loop-i.invariant)

@@ -4,4 +4,4 @@ use Rattle.cp_search.proofs.Searched.{AreFineBelow}
 use Rattle.cp_search.proofs.space.are_fine.Given as goal
 
 abbrev pub invariant-loop-i : goal.invariant-loop-i
-invariant-loop-i l = AreFineBelow (count (view.program l.program)) l.store l.i
+invariant-loop-i l = AreFineBelow l.servers (count (view.program l.program)) l.store l.i
