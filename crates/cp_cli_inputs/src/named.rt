@@ -7,11 +7,11 @@ ghost use Rattle.cp_cli_inputs.specs.declared.named.InputError.TheVariants as er
 
 use cp_check::checking::tables_of;
 use cp_compile_symbols::{Tables, small_number};
-use cp_frontend::checking::{AcceptedTree, accept};
 use cp_frontend::cutting::MAX_INPUT_BYTES;
 use cp_frontend::joining::{join, misplaced};
 use cp_frontend::reading::{ReadError, read_text};
 use cp_frontend::refusal::Refusal;
+use cp_frontend::sources::AcceptedText;
 use cp_inspect::component_table::ComponentTable;
 use cp_inspect::leaves::{initial_leaves, leaves};
 use cp_outcome_variables::named::{Named, row_of};
@@ -33,7 +33,7 @@ pub struct InputOf<'a, R> {
 /// Why inputs by name make no input.
 #[derive(Clone, Copy, Debug, Error)]
 pub enum InputError<'a> {
-    /// The text is refused, the inputs are too long, or memory ran out.
+    /// The inputs are too long, or memory ran out.
     #[error("{0}")]
     Refused(Refusal),
     /// The text has no process with this name.
@@ -74,7 +74,7 @@ impl<'a, T: Drop> From<AllocFailed<T>> for InputError<'a> {
 // The processes and the monitors of an accepted text.
 fn component_table_of<'t>(
     alloc: Global,
-    text: &'t AcceptedTree,
+    text: &'t AcceptedText,
 ) -> Result<ComponentTable<'t>, AllocError> {
     let tables = tables_of(alloc, text.key, &text.tree)?;
     ComponentTable::of(alloc, &tables)
@@ -126,25 +126,6 @@ fn read_inputs<'a, R: Read>(
     Ok(())
 }
 
-/// The number of the process with this name, in any letter case. Process 1 is named
-/// `initial`, unless another process has that name.
-///
-/// # Errors
-///
-/// `Refused` with S, Y or C if the text isn't accepted, `NoProcess` if it has no such process, and
-/// M if memory runs out.
-pub fn process_number<'a>(
-    alloc: Global,
-    text: &[u8],
-    name: &'a str,
-) -> Result<u32, InputError<'a>> {
-    let accepted = accept(alloc, text)?;
-    match component_table_of(alloc, &accepted)?.process(name.as_bytes())? {
-        Some(number) => Ok(number),
-        None => Err(InputError::NoProcess { process: name }),
-    }
-}
-
 // The numbers of all processes.
 fn all_processes(
     alloc: Global,
@@ -155,20 +136,23 @@ fn all_processes(
     (1..=count).collect(alloc)
 }
 
-/// The numbers of the processes with these names, in any letter case. The name `all` means all
-/// processes, unless a process has that name.
+/// The numbers of the processes with these names, in any letter case. Process 1 is named `initial`,
+/// unless another process has that name. The name `all` means all processes, unless a process has
+/// that name.
 ///
 /// # Errors
 ///
-/// Those of `process_number`, for the first name.
+/// `NoProcess` for the first name that no process has, and M if memory runs out.
 pub fn process_numbers<'a>(
     alloc: Global,
-    text: &[u8],
+    text: &AcceptedText,
     names: &[&'a str],
 ) -> Result<Vec<u32>, InputError<'a>> {
-    let accepted = accept(alloc, text)?;
-    let component_table = component_table_of(alloc, &accepted)?;
     let mut numbers = Vec::new(alloc);
+    if names.is_empty() {
+        return Ok(numbers);
+    }
+    let component_table = component_table_of(alloc, text)?;
     for name in names {
         match component_table.process(name.as_bytes())? {
             Some(number) => numbers.push(number)?,
@@ -186,14 +170,13 @@ pub fn process_numbers<'a>(
 ///
 /// # Errors
 ///
-/// S, Y or C if the text isn't accepted, and M if memory runs out.
+/// `AllocError` if memory runs out.
 pub fn unknown_name<'a>(
     alloc: Global,
-    text: &[u8],
+    text: &AcceptedText,
     names: &[&'a str],
-) -> Result<Option<&'a str>, Refusal> {
-    let accepted = accept(alloc, text)?;
-    let component_table = component_table_of(alloc, &accepted)?;
+) -> Result<Option<&'a str>, AllocError> {
+    let component_table = component_table_of(alloc, text)?;
     for name in names {
         if component_table.owner(name.as_bytes())?.is_none() {
             return Ok(Some(*name));
@@ -224,14 +207,13 @@ fn is_known(
 ///
 /// # Errors
 ///
-/// S, Y or C if the text isn't accepted, and M if memory runs out.
+/// `AllocError` if memory runs out.
 pub fn unknown_variable<'a>(
     alloc: Global,
-    text: &[u8],
+    text: &AcceptedText,
     names: &[&'a str],
-) -> Result<Option<&'a str>, Refusal> {
-    let accepted = accept(alloc, text)?;
-    let tables = tables_of(alloc, accepted.key, &accepted.tree)?;
+) -> Result<Option<&'a str>, AllocError> {
+    let tables = tables_of(alloc, text.key, &text.tree)?;
     let component_table = ComponentTable::of(alloc, &tables)?;
     for name in names {
         if !is_known(alloc, &tables, &component_table, name)? {
@@ -247,17 +229,15 @@ pub fn unknown_variable<'a>(
 ///
 /// # Errors
 ///
-/// `Refused` with S, Y or C if the text isn't accepted; then, in the order of the names,
-/// `NoProcess`, `Unread` and `Byte`, and `Refused` with I4 once the inputs and the bytes 28 behind
-/// them have more than 1,048,576 bytes. Also M. A reader is read to its end or through byte
-/// 1,048,577, and no further.
+/// In the order of the names, `NoProcess`, `Unread` and `Byte`, and `Refused` with I4 once the
+/// inputs and the bytes 28 behind them have more than 1,048,576 bytes. Also M. A reader is read to
+/// its end or through byte 1,048,577, and no further.
 pub fn joined_input<'a, R: Read>(
     alloc: Global,
-    text: &[u8],
+    text: &AcceptedText,
     named: &mut [InputOf<'a, R>],
 ) -> Result<Vec<u8>, InputError<'a>> {
-    let accepted = accept(alloc, text)?;
-    let component_table = component_table_of(alloc, &accepted)?;
+    let component_table = component_table_of(alloc, text)?;
     let mut inputs: Vec<Vec<u8>> = Vec::new(alloc);
     inputs.push(Vec::new(alloc))?;
     for _process in &component_table.processes {

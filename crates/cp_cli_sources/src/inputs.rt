@@ -1,9 +1,10 @@
 //! The text and the inputs of a run, opened before anything is read.
 
 use crate::failure::Failure;
-use crate::opening::{Source, open, open_named, read_bytes};
+use crate::opening::{Source, open, open_named};
 use cp_cli::command::{Inputs, NamedInput};
-use cp_cli_inputs::named::{InputOf, joined_input, process_numbers};
+use cp_cli_inputs::named::{InputOf, joined_input};
+use cp_frontend::sources::{AcceptedText, read_accepted, read_input};
 use std::alloc::Global;
 use std::fs::Files;
 use std::io::{Input, Read};
@@ -52,69 +53,39 @@ pub fn open_inputs<'a, H: Files + Input>(
 }
 
 impl<'a, F: Read + Drop, I: Read + Drop> Opened<'a, F, I> {
-    /// One input for all processes. To join inputs by name it reads the text, and puts the
-    /// bytes in the place of their source.
+    /// Reads one input for all processes of a text.
     ///
     /// # Errors
     ///
-    /// None if there is one input already; else I1 if a read of the text fails, and the errors of
-    /// `joined_input`.
-    pub fn joined(
-        self,
-        alloc: Global,
-        text: &mut Source<F, I>,
-    ) -> Result<Source<F, I>, Failure<'a>> {
-        let mut named = match self {
-            Opened::One(source) => return Ok(source),
-            Opened::Named(named) => named,
-        };
-        let bytes = read_bytes(alloc, text)?;
-        let input = joined_input(alloc, &bytes, &mut named)?;
-        *text = Source::of_bytes(bytes);
-        Ok(Source::of_bytes(input))
+    /// I1, I4 or I3 if there is one input, and the errors of `joined_input` if there are several.
+    pub fn read(self, alloc: Global, text: &AcceptedText) -> Result<Vec<u8>, Failure<'a>> {
+        match self {
+            Opened::One(mut source) => Ok(read_input(alloc, &mut source)?),
+            Opened::Named(mut named) => Ok(joined_input(alloc, text, &mut named)?),
+        }
     }
 }
 
-/// What a run reads: a text, and one input for all of its processes.
+/// What a run reads: a text that is accepted, and inputs that are still to be read.
 #[derive(Drop)]
-pub struct Sources<F, I> {
-    pub text: Source<F, I>,
-    pub input: Source<F, I>,
+pub struct Sources<'a, F, I> {
+    pub text: AcceptedText,
+    pub inputs: Opened<'a, F, I>,
 }
 
-/// Opens a text, where `-` is standard input, and then its inputs, and joins them.
+/// Opens a text, where `-` is standard input, and then its inputs, and reads the text.
 ///
 /// # Errors
 ///
-/// I1 if the text can't be opened, and those of opening and joining inputs.
+/// I1 if the text can't be opened, those of opening inputs, and those of `read_accepted`.
 pub fn open_sources<'a, H: Files + Input>(
     rt: &H,
     alloc: Global,
     file: &'a str,
     inputs: &Inputs<'a>,
-) -> Result<Sources<H::File, H::Reader>, Failure<'a>> {
+) -> Result<Sources<'a, H::File, H::Reader>, Failure<'a>> {
     let mut text = open(rt, file)?;
     let inputs = open_inputs(rt, alloc, inputs)?;
-    let input = inputs.joined(alloc, &mut text)?;
-    Ok(Sources { text, input })
-}
-
-/// The numbers of the processes of a text with these names. The bytes of the text are put in the
-/// place of their source, if there are names.
-///
-/// # Errors
-///
-/// I1 if a read of the text fails, and the errors of `process_numbers`.
-pub fn numbers_of<'a, F: Read + Drop, I: Read + Drop>(
-    alloc: Global,
-    text: &mut Source<F, I>,
-    names: &[&'a str],
-) -> Result<Vec<u32>, Failure<'a>> {
-    if names.is_empty() {
-        return Ok(Vec::new(alloc));
-    }
-    let bytes = read_bytes(alloc, text)?;
-    let numbers = process_numbers(alloc, &bytes, names)?;
-    *text = Source::of_bytes(bytes);
-    Ok(numbers)
+    let text = read_accepted(alloc, &mut text)?;
+    Ok(Sources { text, inputs })
 }

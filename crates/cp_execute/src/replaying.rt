@@ -20,8 +20,8 @@ use cp_base_schedule::reading::read_orders;
 use cp_check::checking::{CompiledText, compile_accepted};
 use cp_compile_symbols::Tables;
 use cp_execute_start::starting::machine_at_start;
-use cp_frontend::checking::AcceptedTree;
 use cp_frontend::refusal::Refusal;
+use cp_frontend::sources::AcceptedText;
 use cp_model::tree::Tree;
 use cp_model_machine::law::{reports, waits};
 use cp_program::program::Program;
@@ -125,9 +125,9 @@ fn replay_text(
 /// # Errors
 ///
 /// O1 if the bytes aren't an order of its processes, M if memory runs out.
-pub(crate) fn report_after_replay(
+pub fn report_after_replay(
     alloc: Global,
-    accepted: &AcceptedTree,
+    accepted: &AcceptedText,
     input: &[u8],
     order: &[u8],
     replay: &Replay,

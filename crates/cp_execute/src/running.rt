@@ -12,8 +12,8 @@ use cp_base_config::run::Run;
 use cp_check::checking::{CompiledText, compile_accepted};
 use cp_compile_symbols::Tables;
 use cp_execute_start::starting::machine_at_start;
-use cp_frontend::checking::AcceptedTree;
 use cp_frontend::refusal::Refusal;
+use cp_frontend::sources::AcceptedText;
 use cp_model_machine::law::{reports, waits};
 use cp_program::program::Program;
 use cp_report::report::{report, report_with_chains};
@@ -88,10 +88,10 @@ fn run_program<H: Threads + Wait + Sync, G: TurnGate>(
 /// # Errors
 ///
 /// M if memory runs out.
-pub(crate) fn report_after_run<H: Threads + Wait + Sync, G: TurnGate>(
+pub fn report_after_run<H: Threads + Wait + Sync, G: TurnGate>(
     rt: &H,
     alloc: Global,
-    accepted: &AcceptedTree,
+    accepted: &AcceptedText,
     input: &[u8],
     run: &Run,
     gate: &G,

@@ -11,7 +11,7 @@ ghost use Rattle.cp_frontend.specs.declared.refusal.Refusal.TheVariants as refus
 use crate::until_still::outcome_after_run;
 use cp_base_config::outcome::{OutcomeForm, UntilStill};
 use cp_frontend::refusal::Refusal;
-use cp_frontend::sources::{read_accepted_text, read_input};
+use cp_frontend::sources::{read_accepted, read_input};
 use cp_frontend::writing::write_result;
 use cp_outcome::verdict::Verdict;
 use cp_rounds::gate::TurnGate;
@@ -59,7 +59,7 @@ pub fn execute_outcome<H: Threads + Wait + Sync, R: Read, S: Read, W: Write, G: 
     ensures text { TakesText result (R.remaining text.old) (R.remaining text.new) }
     ensures input { TakesInput result (S.remaining input.old) (S.remaining input.new) }
 {
-    let accepted = read_accepted_text(alloc, text)?;
+    let accepted = read_accepted(alloc, text)?;
     let bytes = read_input(alloc, input)?;
     let outcome = outcome_after_run(rt, alloc, &accepted, &bytes, how, servers, form, show, gate)?;
     write_result(out, &outcome.bytes)?;

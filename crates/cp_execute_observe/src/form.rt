@@ -8,7 +8,7 @@ ghost use Rattle.cp_base_config.specs.declared.outcome.OutcomeForm.TheVariants a
 use crate::snapshot::snapshot_of;
 use cp_base_config::outcome::OutcomeForm;
 use cp_base_config::turn::Turn;
-use cp_frontend::sources::Text;
+use cp_frontend::sources::AcceptedText;
 use cp_inspect::component_table::ComponentTable;
 use cp_outcome::outcome::{outcome, word_of};
 use cp_outcome::several::transcripts;
@@ -66,7 +66,7 @@ fn object_of(
 // object those of all monitors.
 fn variables(
     alloc: Global,
-    text: &Text,
+    text: &AcceptedText,
     machine: &Machine,
     form: OutcomeForm<&[u32]>,
     show: &[&str],
@@ -91,7 +91,7 @@ fn variables(
 /// `AllocError` if memory runs out.
 pub(crate) fn reported<'t>(
     alloc: Global,
-    text: &'t Text,
+    text: &'t AcceptedText,
     machine: &Machine<'_, 't>,
     servers: &[u32],
     verdict: Verdict,

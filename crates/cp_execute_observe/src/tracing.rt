@@ -10,8 +10,8 @@ use crate::rounds::trace;
 use cp_base_config::trace::Tracing;
 use cp_check::checking::{CompiledText, compile_accepted};
 use cp_execute_start::starting::machine_at_start;
-use cp_frontend::checking::AcceptedTree;
 use cp_frontend::refusal::Refusal;
+use cp_frontend::sources::AcceptedText;
 use cp_model::tree::Tree;
 use cp_rounds::finished_machine::FinishedMachine;
 use cp_rounds::gate::TurnGate;
@@ -51,10 +51,10 @@ fn trace_machine<'t, H: Threads + Wait + Sync, W: Write, G: TurnGate>(
 /// # Errors
 ///
 /// M if memory runs out, I2 if a write fails.
-pub(crate) fn machine_after_trace<H: Threads + Wait + Sync, W: Write, G: TurnGate>(
+pub fn machine_after_trace<H: Threads + Wait + Sync, W: Write, G: TurnGate>(
     rt: &H,
     alloc: Global,
-    accepted: &AcceptedTree,
+    accepted: &AcceptedText,
     input: &[u8],
     only: &[&str],
     how: &Tracing,

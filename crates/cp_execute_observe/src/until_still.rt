@@ -14,7 +14,7 @@ use cp_base_config::outcome::{OutcomeForm, UntilStill};
 use cp_check::checking::{CompiledText, compile_accepted};
 use cp_execute_start::starting::machine_at_start;
 use cp_frontend::refusal::Refusal;
-use cp_frontend::sources::Text;
+use cp_frontend::sources::AcceptedText;
 use cp_outcome::verdict::{Verdict, verdict_on};
 use cp_rounds::gate::TurnGate;
 use cp_rounds::machine::Machine;
@@ -25,9 +25,9 @@ use std::thread::Threads;
 
 /// The verdict on a run, and the text that reports it.
 #[derive(Drop)]
-pub(crate) struct Outcome {
-    pub(crate) verdict: Verdict,
-    pub(crate) bytes: Vec<u8>,
+pub struct Outcome {
+    pub verdict: Verdict,
+    pub bytes: Vec<u8>,
 }
 
 // Runs a machine at its start until nothing can move, and returns the outcome in a form, with the
@@ -35,7 +35,7 @@ pub(crate) struct Outcome {
 fn outcome_of<'t, H: Threads + Wait + Sync, G: TurnGate>(
     rt: &H,
     alloc: Global,
-    text: &'t Text,
+    text: &'t AcceptedText,
     mut machine: Machine<'_, 't>,
     how: &UntilStill,
     servers: &[u32],
@@ -75,10 +75,10 @@ fn outcome_of<'t, H: Threads + Wait + Sync, G: TurnGate>(
 /// # Errors
 ///
 /// M if memory runs out.
-pub(crate) fn outcome_after_run<H: Threads + Wait + Sync, G: TurnGate>(
+pub fn outcome_after_run<H: Threads + Wait + Sync, G: TurnGate>(
     rt: &H,
     alloc: Global,
-    text: &Text,
+    text: &AcceptedText,
     input: &[u8],
     how: &UntilStill,
     servers: &[u32],

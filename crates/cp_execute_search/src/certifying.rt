@@ -20,7 +20,7 @@ use cp_check::checking::{CompiledText, compile_accepted};
 use cp_execute::replaying::replay_rounds;
 use cp_execute_observe::snapshot::snapshot_of;
 use cp_execute_start::starting::machine_at_start;
-use cp_frontend::sources::Text;
+use cp_frontend::sources::AcceptedText;
 use cp_outcome::verdict::{Verdict, none_has_faulted, verdict_on};
 use cp_outcome_reasons::snapshot::StatusSnapshot;
 use cp_outcome_schedule::findings::{Finding, Found};
@@ -74,7 +74,7 @@ fn replay_machine(
 // bytes are an order and the state is of the kind.
 fn replay_text(
     alloc: Global,
-    text: &Text,
+    text: &AcceptedText,
     compiled: CompiledText<'_>,
     input: &[u8],
     order: &[u8],
@@ -103,7 +103,7 @@ fn replay_text(
 /// `AllocError` if memory runs out.
 pub(crate) fn certify(
     alloc: Global,
-    text: &Text,
+    text: &AcceptedText,
     input: &[u8],
     schedule: Schedule,
     servers: &[u32],

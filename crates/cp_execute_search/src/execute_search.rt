@@ -12,7 +12,7 @@ use crate::searching::{Reported, search_text};
 use crate::verdict::SearchVerdict;
 use cp_base_config::search::Searching;
 use cp_frontend::refusal::Refusal;
-use cp_frontend::sources::{read_accepted_text, read_input};
+use cp_frontend::sources::{read_accepted, read_input};
 use cp_frontend::writing::write_result;
 use cp_outcome_schedule::findings::Findings;
 use cp_search::search::Watch;
@@ -62,7 +62,7 @@ pub fn execute_search<R: Read, S: Read, W: Write, V: Watch>(
     ensures text { TakesText result (R.remaining text.old) (R.remaining text.new) }
     ensures input { TakesInput result (S.remaining input.old) (S.remaining input.new) }
 {
-    let accepted = read_accepted_text(alloc, text)?;
+    let accepted = read_accepted(alloc, text)?;
     let bytes = read_input(alloc, input)?;
     let reported = search_text(alloc, &accepted, &bytes, servers, how, watch)?;
     write_result(out, &reported.page)?;

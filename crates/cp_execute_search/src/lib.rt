@@ -14,6 +14,6 @@ mod certifying;
 pub mod execute_search;
 mod form;
 pub mod kind;
-mod searching;
+pub mod searching;
 mod seeing;
 pub mod verdict;

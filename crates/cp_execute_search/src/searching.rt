@@ -18,7 +18,7 @@ use crate::verdict::SearchVerdict;
 use cp_base_config::search::Searching;
 use cp_check::checking::{CompiledText, compile_accepted};
 use cp_frontend::refusal::Refusal;
-use cp_frontend::sources::Text;
+use cp_frontend::sources::AcceptedText;
 use cp_outcome_schedule::findings::{Finding, Findings, Subject};
 use cp_search::notes::Stop;
 use cp_search::search::Watch;
@@ -27,16 +27,16 @@ use std::alloc::{AllocError, Global};
 
 /// What a search has found, the verdict on it, and the text that reports both.
 #[derive(Drop)]
-pub(crate) struct Reported {
-    pub(crate) verdict: SearchVerdict,
-    pub(crate) findings: Findings,
-    pub(crate) page: Vec<u8>,
+pub struct Reported {
+    pub verdict: SearchVerdict,
+    pub findings: Findings,
+    pub page: Vec<u8>,
 }
 
 // What was found of a kind, after a replay of its schedule.
 fn finding_of(
     alloc: Global,
-    text: &Text,
+    text: &AcceptedText,
     input: &[u8],
     recorded: Option<Recorded>,
     servers: &[u32],
@@ -57,7 +57,7 @@ fn finding_of(
 // What was found of all that was seen.
 fn findings_of(
     alloc: Global,
-    text: &Text,
+    text: &AcceptedText,
     input: &[u8],
     servers: &[u32],
     seen: Seen,
@@ -121,7 +121,7 @@ fn verdict_of(findings: &Findings) -> SearchVerdict
 // Searches the program of a text.
 fn search_compiled<V: Watch>(
     alloc: Global,
-    text: &Text,
+    text: &AcceptedText,
     compiled: &CompiledText<'_>,
     input: &[u8],
     servers: &[u32],
@@ -157,9 +157,9 @@ fn search_compiled<V: Watch>(
 /// # Errors
 ///
 /// M if memory runs out.
-pub(crate) fn search_text<V: Watch>(
+pub fn search_text<V: Watch>(
     alloc: Global,
-    text: &Text,
+    text: &AcceptedText,
     input: &[u8],
     servers: &[u32],
     how: Searching,

@@ -1,6 +1,7 @@
 //! From the bytes of a text to its syntax tree, or to the reason why it has none or isn't accepted.
 
 ghost use Rattle.std.specs.Prelude.{◌≡◌, IfErr, IfOk};
+ghost use Rattle.cp_model.specs.Rules.{Accepted};
 ghost use Rattle.cp_model.specs.View as view;
 ghost use Rattle.cp_frontend.specs.Refusals.{of_syntax};
 ghost use Rattle.cp_frontend.specs.Texts.{IsAccepted, IsTextOf, Refuses};
@@ -18,6 +19,7 @@ use std::alloc::Global;
 pub struct AcceptedTree {
     pub tree: Tree,
     pub key: Key,
+    ghost accepted: { Accepted (view.tree tree) },
 }
 
 fn syntax_refusal(error: SyntaxError) -> Refusal

@@ -3,7 +3,8 @@
 //! - `reading`: reads bytes. `checking`: parses a text and judges its tree.
 //! - `cutting`: checks an input and cuts it into the inputs of the processes. `joining`: joins the
 //!   inputs of all processes, with a byte 28 behind each.
-//! - `sources`: reads a text that is accepted, and an input that is fit.
+//! - `sources`: reads a text that is accepted, and an input that is fit. A command makes one
+//!   `AcceptedText`, and all that it does takes that.
 //! - `refusal`: why a command has no result. `writing`: writes the result of one.
 //!
 //! `specs/Refusals.antt` and `specs/Texts.antt` define what each refusal means,

@@ -17,12 +17,23 @@ use cp_model::tree::Tree;
 use std::alloc::Global;
 use std::io::Read;
 
-/// The bytes of an accepted text, its syntax tree, and the key of its names.
+/// An accepted text: its bytes, its syntax tree, and the key of its names. A command makes it once.
 #[derive(Drop)]
-pub struct Text {
+pub struct AcceptedText {
     pub bytes: Vec<u8>,
     pub tree: Tree,
     pub key: Key,
+    ghost accepted: { Accepted (view.tree tree) },
+}
+
+impl AcceptedText {
+    /// The text with these bytes, which has this tree.
+    pub fn new(bytes: Vec<u8>, accepted: AcceptedTree) -> AcceptedText
+        ensures { result.tree ≡ accepted.tree }
+    {
+        let AcceptedTree { tree, key } = accepted;
+        AcceptedText { bytes, tree, key }
+    }
 }
 
 /// Reads a text and returns it if it is accepted.
@@ -30,7 +41,7 @@ pub struct Text {
 /// # Errors
 ///
 /// I1, S, Y or C, in this order, and M if memory runs out.
-pub fn read_accepted_text<R: Read>(alloc: Global, text: &mut R) -> Result<Text, Refusal>
+pub fn read_accepted<R: Read>(alloc: Global, text: &mut R) -> Result<AcceptedText, Refusal>
     ensures accepted { IfOk result (λ t. Accepted (view.tree t.tree)) }
     ensures text { IfOk result
         (λ t. IfSome (R.remaining text.old) (λ xs. IsAccepted xs (view.tree t.tree))) }
@@ -40,31 +51,7 @@ pub fn read_accepted_text<R: Read>(alloc: Global, text: &mut R) -> Result<Text, 
 {
     let bytes = read_text(alloc, text)?;
     let accepted = accept(alloc, &bytes)?;
-    Ok(Text {
-        bytes,
-        tree: accepted.tree,
-        key: accepted.key,
-    })
-}
-
-/// Reads a text and returns its syntax tree if the text is accepted.
-///
-/// # Errors
-///
-/// As `read_accepted_text`.
-pub fn read_accepted<R: Read>(alloc: Global, text: &mut R) -> Result<AcceptedTree, Refusal>
-    ensures accepted { IfOk result (λ t. Accepted (view.tree t.tree)) }
-    ensures text { IfOk result
-        (λ t. IfSome (R.remaining text.old) (λ xs. IsAccepted xs (view.tree t.tree))) }
-    ensures refused { IfErr result (λ e. IfSome (R.remaining text.old) (λ xs. RefusesText xs e)) }
-    ensures about_text { IfErr result (λ e. IsAboutText (concern e)) }
-    ensures taken { TakesText result (R.remaining text.old) (R.remaining text.new) }
-{
-    let read = read_accepted_text(alloc, text)?;
-    Ok(AcceptedTree {
-        tree: read.tree,
-        key: read.key,
-    })
+    Ok(AcceptedText::new(bytes, accepted))
 }
 
 /// Reads an input and returns it if it is fit for a run.

@@ -1,24 +1,28 @@
 //! Checks, runs, outcomes, traces and replays. Each opens all that it reads before it reads any of
-//! it, and prints its result. Errors are those of opening, of joining inputs, and of the calls of
-//! cp_execute and cp_execute_observe.
+//! it, and prints its result. A text is scanned, parsed and judged once. Errors are those of opening,
+//! of reading inputs by name, and of the calls of cp_execute and cp_execute_observe.
 
 use cp_base_config::outcome::{OutcomeForm, UntilStill};
 use cp_base_config::run::{Replay, Run};
 use cp_base_config::trace::Tracing;
 use cp_cli::command::{Inputs, STANDARD_INPUT, Shown};
-use cp_cli_inputs::named::{unknown_name, unknown_variable};
+use cp_cli_inputs::named::{joined_input, process_numbers, unknown_name, unknown_variable};
 use cp_cli_progress::Progress;
 use cp_cli_sources::failure::Failure;
-use cp_cli_sources::inputs::{Sources, numbers_of, open_inputs, open_sources};
+use cp_cli_sources::inputs::{Opened, Sources, open_inputs, open_sources};
 use cp_cli_sources::judging::open_judged;
-use cp_cli_sources::opening::{Source, open, read_bytes};
-use cp_cli_sources::printing::{Screen, flush, flushed};
+use cp_cli_sources::opening::{open, read_bytes};
+use cp_cli_sources::printing::{Screen, flush, flushed, print_bytes};
 use cp_cli_terminal::painter::Painter;
 use cp_execute::execute::{Job, execute};
 use cp_execute::execute_order::execute_order;
-use cp_execute_observe::execute_outcome::execute_outcome;
-use cp_execute_observe::execute_trace::execute_trace;
+use cp_execute::replaying::report_after_replay;
+use cp_execute::running::report_after_run;
+use cp_execute_observe::tracing::machine_after_trace;
+use cp_execute_observe::until_still::outcome_after_run;
 use cp_frontend::refusal::Refusal;
+use cp_frontend::sources::{AcceptedText, read_accepted};
+use cp_frontend::writing::write_result;
 use cp_outcome::verdict::Verdict;
 use std::alloc::Global;
 use std::fs::Files;
@@ -55,6 +59,23 @@ pub(crate) fn check<'a, H: Clock + Eprint + Files + Input + Print + Threads + Wa
     Ok(())
 }
 
+// Runs an accepted text on an input, and prints the report.
+fn print_report<H: Clock + Eprint + Print + Threads + Wait + Sync>(
+    rt: &H,
+    alloc: Global,
+    text: &AcceptedText,
+    input: &[u8],
+    run: &Run,
+    progress: bool,
+) -> Result<(), Refusal> {
+    let progress = Progress::of(rt, progress);
+    let mut out = progress.beside(io::writer(rt));
+    let report = report_after_run(rt, alloc, text, input, run, &progress);
+    progress.erase();
+    write_result(&mut out, &report?)?;
+    flush(&mut out)
+}
+
 /// Runs a text, and prints the report.
 pub(crate) fn run<'a, H: Clock + Eprint + Files + Input + Print + Threads + Wait + Sync>(
     rt: &H,
@@ -64,10 +85,17 @@ pub(crate) fn run<'a, H: Clock + Eprint + Files + Input + Print + Threads + Wait
     run: Run,
     progress: bool,
 ) -> Result<(), Failure<'a>> {
-    let mut read = open_sources(rt, alloc, file.unwrap_or(STANDARD_INPUT), input)?;
-    let job = Job::Run(run);
-    let Sources { text, input } = &mut read;
-    print_job(rt, alloc, text, input, &job, progress)?;
+    let mut text = open(rt, file.unwrap_or(STANDARD_INPUT))?;
+    match open_inputs(rt, alloc, input)? {
+        Opened::One(mut input) => {
+            print_job(rt, alloc, &mut text, &mut input, &Job::Run(run), progress)?;
+        }
+        Opened::Named(mut named) => {
+            let text = read_accepted(alloc, &mut text)?;
+            let input = joined_input(alloc, &text, &mut named)?;
+            print_report(rt, alloc, &text, &input, &run, progress)?;
+        }
+    }
     Ok(())
 }
 
@@ -82,11 +110,11 @@ fn numbered(form: OutcomeForm<()>, processes: &[u32]) -> OutcomeForm<&[u32]> {
 }
 
 // Runs a text until nothing can move, and prints the outcome.
-fn print_outcome<H: Clock + Eprint + Print + Threads + Wait + Sync, R: Read, S: Read>(
+fn print_outcome<H: Clock + Eprint + Print + Threads + Wait + Sync>(
     rt: &H,
     alloc: Global,
-    text: &mut R,
-    input: &mut S,
+    text: &AcceptedText,
+    input: &[u8],
     how: &UntilStill,
     servers: &[u32],
     form: OutcomeForm<&[u32]>,
@@ -96,11 +124,12 @@ fn print_outcome<H: Clock + Eprint + Print + Threads + Wait + Sync, R: Read, S: 
     let progress = Progress::of(rt, screen.progress);
     let is_painting = screen.colours && matches!(form, OutcomeForm::Verdict);
     let mut out = progress.beside(Painter::new(alloc, io::writer(rt), is_painting));
-    let reported = execute_outcome(
-        rt, alloc, text, input, how, servers, form, show, &progress, &mut out,
-    );
+    let outcome = outcome_after_run(rt, alloc, text, input, how, servers, form, show, &progress);
     progress.erase();
-    flushed(reported, &mut out)
+    let outcome = outcome?;
+    write_result(&mut out, &outcome.bytes)?;
+    flush(&mut out)?;
+    Ok(outcome.verdict)
 }
 
 // Opens the text and the inputs of an outcome. An object says so if the text is refused.
@@ -110,7 +139,7 @@ fn open_outcome<'a, H: Files + Input + Print>(
     file: &'a str,
     input: &Inputs<'a>,
     form: OutcomeForm<()>,
-) -> Result<Sources<H::File, H::Reader>, Failure<'a>> {
+) -> Result<Sources<'a, H::File, H::Reader>, Failure<'a>> {
     match form {
         OutcomeForm::Json => open_judged(rt, alloc, file, input),
         _ => open_sources(rt, alloc, file, input),
@@ -129,64 +158,58 @@ pub(crate) fn outcome<'a, H: Clock + Eprint + Files + Input + Print + Threads + 
     shown: &Shown<'a>,
     screen: Screen,
 ) -> Result<Verdict, Failure<'a>> {
-    let mut read = open_outcome(rt, alloc, file, input, shown.form)?;
-    let servers = numbers_of(alloc, &mut read.text, servers)?;
-    let numbers = numbers_of(alloc, &mut read.text, &shown.processes)?;
-    if !shown.variables.is_empty() {
-        find_variables(alloc, &mut read.text, &shown.variables)?;
-    }
+    let Sources { text, inputs } = open_outcome(rt, alloc, file, input, shown.form)?;
+    let servers = process_numbers(alloc, &text, servers)?;
+    let numbers = process_numbers(alloc, &text, &shown.processes)?;
+    find_variables(alloc, &text, &shown.variables)?;
+    let input = inputs.read(alloc, &text)?;
     let form = numbered(shown.form, &numbers);
-    let Sources { text, input } = &mut read;
     let show = &shown.variables;
-    let verdict = print_outcome(rt, alloc, text, input, how, &servers, form, show, screen)?;
+    let verdict = print_outcome(rt, alloc, &text, &input, how, &servers, form, show, screen)?;
     Ok(verdict)
 }
 
-// Reads the text, and puts its bytes in the place of their source, if it has a process or a monitor
-// with each of these names.
-fn find_names<'a, F: Read + Drop, I: Read + Drop>(
+// Fails unless a text has a process or a monitor with each of these names.
+fn find_names<'a>(
     alloc: Global,
-    text: &mut Source<F, I>,
+    text: &AcceptedText,
     names: &[&'a str],
 ) -> Result<(), Failure<'a>> {
-    let bytes = read_bytes(alloc, text)?;
-    if let Some(name) = unknown_name(alloc, &bytes, names)? {
-        return Err(Failure::NoMember { name });
+    match unknown_name(alloc, text, names) {
+        Ok(None) => Ok(()),
+        Ok(Some(name)) => Err(Failure::NoMember { name }),
+        Err(_) => Err(Failure::Refused(Refusal::Memory)),
     }
-    *text = Source::of_bytes(bytes);
-    Ok(())
 }
 
-// Reads the text, and puts its bytes in the place of their source, if it has variables with all of
-// these names.
-fn find_variables<'a, F: Read + Drop, I: Read + Drop>(
+// Fails unless a text has variables with all of these names.
+fn find_variables<'a>(
     alloc: Global,
-    text: &mut Source<F, I>,
+    text: &AcceptedText,
     names: &[&'a str],
 ) -> Result<(), Failure<'a>> {
-    let bytes = read_bytes(alloc, text)?;
-    if let Some(name) = unknown_variable(alloc, &bytes, names)? {
-        return Err(Failure::NoVariable { name });
+    match unknown_variable(alloc, text, names) {
+        Ok(None) => Ok(()),
+        Ok(Some(name)) => Err(Failure::NoVariable { name }),
+        Err(_) => Err(Failure::Refused(Refusal::Memory)),
     }
-    *text = Source::of_bytes(bytes);
-    Ok(())
 }
 
 // Runs a text, and prints what became of the processes and monitors with these names.
-fn print_trace<H: Clock + Eprint + Print + Threads + Wait + Sync, R: Read, S: Read>(
+fn print_trace<H: Clock + Eprint + Print + Threads + Wait + Sync>(
     rt: &H,
     alloc: Global,
-    text: &mut R,
-    input: &mut S,
+    text: &AcceptedText,
+    input: &[u8],
     only: &[&str],
     how: &Tracing,
     progress: bool,
 ) -> Result<(), Refusal> {
     let progress = Progress::of(rt, progress);
     let mut out = progress.beside(io::writer(rt));
-    let reported = execute_trace(rt, alloc, text, input, only, how, &progress, &mut out);
+    let traced = machine_after_trace(rt, alloc, text, input, only, how, &progress, &mut out);
     progress.erase();
-    reported?;
+    traced?;
     flush(&mut out)
 }
 
@@ -201,16 +224,14 @@ pub(crate) fn trace<'a, H: Clock + Eprint + Files + Input + Print + Threads + Wa
     how: &Tracing,
     progress: bool,
 ) -> Result<(), Failure<'a>> {
-    let mut read = open_sources(rt, alloc, file, input)?;
-    if !only.is_empty() {
-        find_names(alloc, &mut read.text, only)?;
-    }
-    let Sources { text, input } = &mut read;
-    print_trace(rt, alloc, text, input, only, how, progress)?;
+    let Sources { text, inputs } = open_sources(rt, alloc, file, input)?;
+    find_names(alloc, &text, only)?;
+    let input = inputs.read(alloc, &text)?;
+    print_trace(rt, alloc, &text, &input, only, how, progress)?;
     Ok(())
 }
 
-// Replays a text in an order, and prints the report.
+// Replays the text of a reader in the order of another, and prints the report.
 fn print_replay<H: Print, R: Read, S: Read, O: Read>(
     rt: &H,
     alloc: Global,
@@ -234,9 +255,19 @@ pub(crate) fn replay<'a, H: Files + Input + Print>(
     replay: &Replay,
 ) -> Result<(), Failure<'a>> {
     let mut text = open(rt, file)?;
-    let input = open_inputs(rt, alloc, input)?;
+    let inputs = open_inputs(rt, alloc, input)?;
     let mut order = open(rt, order)?;
-    let mut input = input.joined(alloc, &mut text)?;
-    print_replay(rt, alloc, &mut text, &mut input, &mut order, replay)?;
+    match inputs {
+        Opened::One(mut input) => {
+            print_replay(rt, alloc, &mut text, &mut input, &mut order, replay)?;
+        }
+        Opened::Named(mut named) => {
+            let text = read_accepted(alloc, &mut text)?;
+            let input = joined_input(alloc, &text, &mut named)?;
+            let order = read_bytes(alloc, &mut order)?;
+            let report = report_after_replay(alloc, &text, &input, &order, replay)?;
+            print_bytes(rt, &report)?;
+        }
+    }
     Ok(())
 }

@@ -3,19 +3,22 @@
 
 use cp_base_config::search::{SearchForm, Searching};
 use cp_cli::command::Inputs;
+use cp_cli_inputs::named::process_numbers;
 use cp_cli_progress::Progress;
 use cp_cli_sources::failure::Failure;
-use cp_cli_sources::inputs::{Sources, numbers_of, open_sources};
+use cp_cli_sources::inputs::{Sources, open_sources};
 use cp_cli_sources::judging::open_judged;
-use cp_cli_sources::printing::{Screen, flushed};
+use cp_cli_sources::printing::{Screen, flush};
 use cp_cli_terminal::painter::Painter;
-use cp_execute_search::execute_search::{Searched, execute_search};
+use cp_execute_search::searching::{Reported, search_text};
 use cp_execute_search::verdict::status_of;
 use cp_frontend::refusal::Refusal;
+use cp_frontend::sources::AcceptedText;
+use cp_frontend::writing::write_result;
 use cp_outcome_schedule::findings::{Finding, Findings};
 use std::alloc::Global;
 use std::fs::{self, Files};
-use std::io::{self, Input, Print, Read};
+use std::io::{self, Input, Print};
 use std::rt::Clock;
 
 // The names of the files of the schedules that are found, by their kinds.
@@ -58,21 +61,24 @@ fn save<H: Files>(rt: &H, file: &str, finding: &Finding) -> io::Result<()> {
 }
 
 // Searches a text, prints what was found, and returns it.
-fn print_search<H: Clock + Eprint + Print, R: Read, S: Read>(
+fn print_search<H: Clock + Eprint + Print>(
     rt: &H,
     alloc: Global,
-    text: &mut R,
-    input: &mut S,
+    text: &AcceptedText,
+    input: &[u8],
     servers: &[u32],
     how: Searching,
     screen: Screen,
-) -> Result<Searched, Refusal> {
+) -> Result<Reported, Refusal> {
     let progress = Progress::of(rt, screen.progress);
     let is_painting = screen.colours && matches!(how.form, SearchForm::Lines);
     let mut out = progress.beside(Painter::new(alloc, io::writer(rt), is_painting));
-    let done = execute_search(alloc, text, input, servers, how, &progress, &mut out);
+    let searched = search_text(alloc, text, input, servers, how, &progress);
     progress.erase();
-    flushed(done, &mut out)
+    let searched = searched?;
+    write_result(&mut out, &searched.page)?;
+    flush(&mut out)?;
+    Ok(searched)
 }
 
 /// Searches a text, prints what was found, and returns the exit status. Then it writes each schedule
@@ -81,7 +87,7 @@ fn print_search<H: Clock + Eprint + Print, R: Read, S: Read>(
 ///
 /// # Errors
 ///
-/// Those of opening and joining inputs, of `numbers_of` and of `execute_search`, and `Unsaved` if a
+/// Those of opening and reading inputs, of `process_numbers` and of `search_text`, and `Unsaved` if a
 /// file can't be written.
 pub(crate) fn search<'a, H: Clock + Eprint + Files + Input + Print>(
     rt: &H,
@@ -97,13 +103,13 @@ pub(crate) fn search<'a, H: Clock + Eprint + Files + Input + Print>(
         Some(name) => Some(Names::of(alloc, name)?),
         None => None,
     };
-    let mut read = match how.form {
+    let Sources { text, inputs } = match how.form {
         SearchForm::Json => open_judged(rt, alloc, file, input)?,
         SearchForm::Lines => open_sources(rt, alloc, file, input)?,
     };
-    let servers = numbers_of(alloc, &mut read.text, servers)?;
-    let Sources { text, input } = &mut read;
-    let searched = print_search(rt, alloc, text, input, &servers, how, screen)?;
+    let servers = process_numbers(alloc, &text, servers)?;
+    let input = inputs.read(alloc, &text)?;
+    let searched = print_search(rt, alloc, &text, &input, &servers, how, screen)?;
     if let Some(names) = names {
         names.save(rt, &searched.findings)?;
     }

@@ -13,17 +13,17 @@ use Rattle.cp_frontend.proofs.Takings.{input_kept, input_written, memory_at, no_
 use Rattle.cp_frontend.proofs.TextRefusals.{of_known, run_refused_input, run_refused_text}
 use Rattle.cp_execute.proofs.execute.run_text.Given.{Over}
 use Rattle.cp_execute.proofs.execute.run_text.Goals as goal
-use Rattle.cp_execute.proofs.execute.run_text.Goals.{After-drop-accepted-2}
+use Rattle.cp_execute.proofs.execute.run_text.Goals.{After-drop-accepted-3}
 
 -- The text is accepted and the input, if it is known, is fit. The report that was made is the one
 -- that is due.
-abbrev Made : (g : Over) → After-drop-accepted-2 g → List ℕ → Type 0
+abbrev Made : (g : Over) → After-drop-accepted-3 g → List ℕ → Type 0
 Made g c xs =
     IsAccepted xs (view.tree c.in_ok-accepted.accepted.tree)
     × ((ys : List ℕ) → g.S.Read.remaining c.args.input.now ≡ Some ys
     → (judge_input ys ≡ Ok tt) × IsDue c.args.run.now (view.tree c.in_ok-accepted.accepted.tree) ys c.in_ok-report.report.items)
 
-made : (g : Over) (c : After-drop-accepted-2 g) (xs : List ℕ) → g.R.Read.remaining c.args.text.now ≡ Some xs → Made g c xs
+made : (g : Over) (c : After-drop-accepted-3 g) (xs : List ℕ) → g.R.Read.remaining c.args.text.now ≡ Some xs → Made g c xs
 made g c xs text = (of_known (λ zs. IsAccepted zs t) (g.R.Read.remaining c.args.text.now) xs c.in_ok-accepted.ensures.text text, of_input)
   where
     t : s.Tree

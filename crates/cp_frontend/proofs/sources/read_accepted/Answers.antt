@@ -2,7 +2,7 @@ use Rattle.std.specs.Prelude.{Err, Ok}
 use Rattle.std.proofs.lemmas.Result.{err_from_is_err_and}
 use Rattle.cp_frontend.proofs.Takings.{text_taken}
 use Rattle.cp_frontend.proofs.TextRefusals.{accepted_known, known_accepted, refused_is_about_text, refused_known}
-use Rattle.cp_frontend.proofs.sources.read_accepted_text.Goals as goal
+use Rattle.cp_frontend.proofs.sources.read_accepted.Goals as goal
 
 pub returns-in_err-accepted-clause-refused : goal.returns-in_err-accepted-clause-refused
 returns-in_err-accepted-clause-refused g c =
@@ -22,12 +22,12 @@ returns-in_err-accepted-clause-taken g c =
 
 pub returns-clause-accepted : goal.returns-clause-accepted
 returns-clause-accepted g c =
-    known_accepted (Ok c.in_ok-accepted.accepted) c.in_ok-bytes.bytes.items (rw c.deref.ensures.value at c.in_ok-accepted.ensures.accepted)
+    rw c.new.ensures (known_accepted (Ok c.in_ok-accepted.accepted) c.in_ok-bytes.bytes.items (rw c.deref.ensures.value at c.in_ok-accepted.ensures.accepted))
 
 pub returns-clause-text : goal.returns-clause-text
 returns-clause-text g c =
-    accepted_known (Ok c.in_ok-accepted.accepted) (g.R.Read.remaining c.args.text.now) c.in_ok-bytes.bytes.items c.in_ok-bytes.ensures.bytes
-    (rw c.deref.ensures.value at c.in_ok-accepted.ensures.accepted)
+    rw c.new.ensures (accepted_known (Ok c.in_ok-accepted.accepted) (g.R.Read.remaining c.args.text.now) c.in_ok-bytes.bytes.items c.in_ok-bytes.ensures.bytes
+    (rw c.deref.ensures.value at c.in_ok-accepted.ensures.accepted))
 
 pub returns-clause-taken : goal.returns-clause-taken
 returns-clause-taken g c =
