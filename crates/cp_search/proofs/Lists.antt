@@ -1,5 +1,5 @@
 -- Lists of cores that grow.
-use Rattle.std.specs.Prelude.{Bool, Contains, List, Some, [], false, length, nat_eq, refl, slice_get, suc, true, zero, ℕ, ◌+◌, ◌++◌, ◌<◌, ◌∷◌, ◌≡◌, ◌≤◌}
+use Rattle.std.specs.Prelude.{Bool, Contains, Err, IfOk, List, Ok, Result, Some, [], false, length, nat_eq, refl, slice_get, suc, true, zero, ℕ, ◌+◌, ◌++◌, ◌<◌, ◌∷◌, ◌≡◌, ◌≤◌}
 use Rattle.std.proofs.Common.{ap, arith, subst, sym, ◌∙◌}
 use Rattle.std.proofs.lemmas.Bool.{eqb-false, eqb-true}
 use Rattle.std.proofs.lemmas.List.{length-append}
@@ -82,3 +82,9 @@ expanded_more program vs i was here = record { each = λ j p v less e low high. 
     by : (j p : ℕ) (v : Core) → j < i + 1 → slice_get vs j ≡ Some v → 1 ≤ p → p ≤ count program → (b : Bool) → nat_eq j i ≡ b → IsCovered program vs v p
     by j p v less e low high true g = here.each p v (ap (slice_get vs) (sym (eqb-true j i g)) ∙ e) low (omega arith)
     by j p v less e low high false g = let apart = eqb-false j i g in was.each j p v (omega arith) e low high
+
+-- ---- Results
+
+pub both_ok : {T E : Type 0} (r : Result T E) (P Q R : T → Type 0) → ((x : T) → P x → Q x → R x) → IfOk r P → IfOk r Q → IfOk r R
+both_ok (Ok x) P Q R both p q = both x p q
+both_ok (Err e) P Q R both p q = tt

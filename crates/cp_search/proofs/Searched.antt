@@ -17,17 +17,22 @@ use Rattle.cp_law_cores.specs.Turns.{AreSilent}
 use Rattle.cp_law_cores.proofs.Parts.{from_map, none_is}
 use Rattle.cp_law_search.specs.Calls.{move_at, way_at}
 use Rattle.cp_law_exploring.specs.Laws.{FirstIsClosed}
-use Rattle.cp_law_exploring.specs.Exploring.{AreQuiescent, AreExpanded, Grows, IsCoveredBelow, LeadsInto, SettlesQuietly, SettlesAs, count}
+use Rattle.cp_law_exploring.specs.Exploring.{AreExpanded, Grows, IsCoveredBelow, LeadsInto, SettlesQuietly, SettlesAs, count}
 use Rattle.cp_law_servers.specs.Laws.{ExpandedReportsServed}
 use Rattle.cp_law_servers.specs.Servers.{AreServed}
 use Rattle.cp_search_states.specs.SearchStates.{core_of}
-use Rattle.cp_search_states.specs.Sameness.{IsFine}
+use Rattle.cp_search_states.specs.Verdicts.{IsFine}
 use Rattle.cp_search_states.specs.declared.state.SearchState.{SearchState}
-use Rattle.cp_search_store.specs.States.{IsAdded, core_at, cores_of, state_count}
+use Rattle.cp_search_states.specs.Alone.{AreNumbered, IsResting}
+use Rattle.cp_search_store.specs.Moves.{AreTrue}
+use Rattle.cp_search_store.specs.States.{AreResting, HasMoreParts, IsAdded, IsSound, core_at, core_numbered, cores_of, state_count}
+use Rattle.cp_search_store.specs.declared.moves.Move.{Move}
 use Rattle.cp_search_store.specs.declared.store.Store.{Store}
+use Rattle.cp_search_store.proofs.Growing.{more_cores, more_sound}
 use Rattle.cp_search_store.proofs.Listed.{listed_at, listed_count}
-use Rattle.cp_search.specs.SearchResults.{HasExpanded, HasExplored, IsCoveredNow, IsReady, NothingIsStuck}
-use Rattle.cp_search.proofs.Lists.{below_grown, below_more, expanded_grown, expanded_more, got_grown, grown_length, grows_not, leads_grown}
+use Rattle.cp_search_store.proofs.Made.{all_true_more, none_true}
+use Rattle.cp_search.specs.SearchResults.{HasAdded, HasExpanded, HasExplored, IsCoveredNow, IsReady, NothingIsStuck}
+use Rattle.cp_search.proofs.Lists.{below_grown, below_more, expanded_grown, expanded_more, got_grown, grown_length, grows_more, grows_not, leads_grown}
 
 -- ---- States and their cores
 
@@ -37,43 +42,90 @@ cores_at inputs store i below = listed_at (core_at inputs store) (state_count st
 pub cores_count : (inputs : ℕ → List ℕ) (store : Store) → length (cores_of inputs store) ≡ state_count store
 cores_count inputs store = listed_count (core_at inputs store) (state_count store)
 
--- ---- Trying
+-- ---- Adding
 
 module _ (program : Program) (inputs : ℕ → List ℕ) where
-  pub tried_no : (i p : ℕ) (store : Store) (c : Core) → i < state_count store → IsReady inputs store → c ≡ core_at inputs store i
-      → (way_at program c p ≡ Late → ⊥) → IsCoveredNow program inputs i p store store
+  pub rests_settled : (x d : Core) → SettlesQuietly program x d → AreNumbered program d → IsResting program d
+  rests_settled x d h numbers = record { quiet = h.rests; settled = h.settles.settled; numbers = numbers }
+
+  -- No state has been added, but parts may have been.
+  pub more_grows : (old new : Store) → IsSound old → HasMoreParts old new → Grows (cores_of inputs old) (cores_of inputs new)
+  more_grows old new sound h = subst (Grows (cores_of inputs old)) (sym (more_cores old new h sound inputs)) (grows_not (cores_of inputs old))
+
+  pub more_ready : (old new : Store) (ms : List Move) → IsReady program inputs old ms → HasMoreParts old new → IsReady program inputs new ms
+  more_ready old new ms ready h = record {
+    sound = more_sound old new h ready.sound;
+    rest = subst (AreResting program) (sym (more_cores old new h ready.sound inputs)) ready.rest;
+    true_moves = all_true_more program old.kernels.kernels.items new.kernels.kernels.items old.parts.privates.items new.parts.privates.items h.kernels h.parts inputs ms ready.true_moves;
+  }
+
+  -- A state has been added by the numbers of its parts.
+  pub row_added : (old new : Store) (k : ℕ) (numbers : List ℕ) (c : Core) → core_numbered inputs old k numbers ≡ c → IsAdded old k numbers new → HasAdded program inputs old c new
+  row_added old new k numbers c is h = record {
+    grows = h.grows inputs;
+    known = subst (Contains (cores_of inputs new)) is (h.known inputs);
+    ready = λ ms ready resting. record {
+      sound = h.sound;
+      rest = h.rest program inputs ready.rest (subst (IsResting program) (sym is) resting);
+      true_moves = subst (λ l. AreTrue program inputs new.kernels.kernels.items l ms) (sym h.parts)
+          (subst (λ l. AreTrue program inputs l old.parts.privates.items ms) (sym h.kernels) ready.true_moves);
+    };
+  }
+
+  -- The same, after parts have been added.
+  pub added_after : (old mid new : Store) (c : Core) → IsSound old → HasMoreParts old mid → HasAdded program inputs mid c new → HasAdded program inputs old c new
+  added_after old mid new c sound more h = record {
+    grows = grows_more (cores_of inputs old) (cores_of inputs mid) (cores_of inputs new) (more_grows old mid sound more) h.grows;
+    known = h.known;
+    ready = λ ms ready resting. h.ready ms (more_ready old mid ms ready more) resting;
+  }
+
+-- ---- Trying
+
+module _ (program : Program) (inputs : ℕ → List ℕ) (ms : List Move) where
+  pub tried_no : (i p : ℕ) (store : Store) (c : Core) → i < state_count store → IsReady program inputs store ms → c ≡ core_at inputs store i
+      → (way_at program c p ≡ Late → ⊥) → IsCoveredNow program inputs i p store store ms
   tried_no i p store c below ready is early = record {
     grows = grows_not (cores_of inputs store);
     ready = ready;
     tried = λ v e late. absurd (early (subst (λ w. way_at program w p ≡ Late) (same_some v c (sym e ∙ (cores_at inputs store i below ∙ ap (λ (w : Core). Some w) (sym is)))) late));
   }
 
-  pub tried_yes : (i p : ℕ) (store new : Store) (c : Core) (state : SearchState) → i < state_count store → IsReady inputs store → c ≡ core_at inputs store i
-      → SettlesQuietly program (move_at program c p) (core_of inputs state) → IsAdded store state new → IsCoveredNow program inputs i p store new
-  tried_yes i p store new c state below ready is rests added = record {
-    grows = added.grows inputs;
-    ready = record { sound = added.sound; rest = added.rest inputs ready.rest rests.rests };
+  pub tried_yes : (i p : ℕ) (store new : Store) (c d : Core) → i < state_count store → IsReady program inputs store ms → c ≡ core_at inputs store i
+      → SettlesQuietly program (move_at program c p) d → IsResting program d → HasAdded program inputs store d new → IsCoveredNow program inputs i p store new ms
+  tried_yes i p store new c d below ready is settles resting added = record {
+    grows = added.grows;
+    ready = added.ready ms ready resting;
     tried = λ v e late.
-        let old = got_grown (cores_of inputs store) (cores_of inputs new) i v (added.grows inputs) (let count = cores_count inputs store in omega (arith, count, below)) e in
-        let same : c ≡ v = is ∙ same_some (core_at inputs store i) v (sym (cores_at inputs store i below) ∙ old) in
+        let there = got_grown (cores_of inputs store) (cores_of inputs new) i v added.grows (let count = cores_count inputs store in omega (arith, count, below)) e in
+        let same : c ≡ v = is ∙ same_some (core_at inputs store i) v (sym (cores_at inputs store i below) ∙ there) in
         record {
-          member = core_of inputs state;
-          known = added.known inputs;
-          settles = subst (λ w. SettlesAs program (move_at program w p) (core_of inputs state)) same rests.settles;
+          member = d;
+          known = added.known;
+          settles = subst (λ w. SettlesAs program (move_at program w p) d) same settles.settles;
         };
   }
 
-  pub expanded_one : (i k : ℕ) (store new : Store) → i < state_count store
-      → IsCoveredBelow program (cores_of inputs store) i (k + 1) → IsCoveredNow program inputs i (k + 1) store new
+  -- What is tried after parts have been added.
+  pub tried_after : (i p : ℕ) (old mid new : Store) → IsSound old → HasMoreParts old mid → IsCoveredNow program inputs i p mid new ms → IsCoveredNow program inputs i p old new ms
+  tried_after i p old mid new sound more h = record {
+    grows = grows_more (cores_of inputs old) (cores_of inputs mid) (cores_of inputs new) (more_grows program inputs old mid sound more) h.grows;
+    ready = h.ready;
+    tried = h.tried;
+  }
+
+module _ (program : Program) (inputs : ℕ → List ℕ) where
+  pub expanded_one : (i k : ℕ) (store new : Store) (ms : List Move) → i < state_count store
+      → IsCoveredBelow program (cores_of inputs store) i (k + 1) → IsCoveredNow program inputs i (k + 1) store new ms
       → IsCoveredBelow program (cores_of inputs new) i (k + 1 + 1)
-  expanded_one i k store new below was tried =
+  expanded_one i k store new ms below was tried =
       let count = cores_count inputs store in
       below_more program (cores_of inputs new) i (k + 1)
       (below_grown program (cores_of inputs store) (cores_of inputs new) i (k + 1) tried.grows (omega (arith, count, below)) was) tried.tried
 
-  pub explored_one : (i : ℕ) (store new : Store) → i < state_count store → AreExpanded program (cores_of inputs store) i → HasExpanded program inputs i store new
+  pub explored_one : (i : ℕ) (store new : Store) (ms : List Move) → i < state_count store → AreExpanded program (cores_of inputs store) i → HasExpanded program inputs i store new ms
       → AreExpanded program (cores_of inputs new) (i + 1)
-  explored_one i store new below was h =
+  explored_one i store new ms below was h =
       let count = cores_count inputs store in
       expanded_more program (cores_of inputs new) i
       (expanded_grown program (cores_of inputs store) (cores_of inputs new) i h.grows (omega (arith, count, below)) was) h.expanded
@@ -123,21 +175,25 @@ first_is_silent program inputs c is = subst AreSilent (sym is) (record {
 pub nothing_stuck : (servers : List ℕ) (program : Program) (inputs : ℕ → List ℕ) (start first : SearchState) (none store new : Store)
     → FirstIsClosed → ExpandedReportsServed → is_timeless program ≡ true
     → core_of inputs start ≡ core (first_machine program 1 inputs) → SettlesQuietly program (close program (core_of inputs start)) (core_of inputs first)
-    → IsAdded none first store → HasExplored program inputs store new → AreServed servers (count program) (cores_of inputs new) → NothingIsStuck servers program inputs
+    → HasAdded program inputs none (core_of inputs first) store → HasExplored program inputs store new → AreServed servers (count program) (cores_of inputs new) → NothingIsStuck servers program inputs
 nothing_stuck servers program inputs start first none store new closed reports timeless starts rests added explored fine = record {
   fine = λ setup represents given.
       let begins : close program (core_of inputs start) ≡ first_core program setup =
       ap (close program) (starts ∙ same_first program setup inputs represents given) ∙ closed program setup in
       let leads : LeadsInto program (cores_of inputs store) (first_core program setup) = record {
         member = core_of inputs first;
-        known = added.known inputs;
+        known = added.known;
         settles = subst (λ x. SettlesAs program x (core_of inputs first)) begins rests.settles;
       } in
       reports servers program setup (cores_of inputs new) represents timeless explored.all (leads_grown program (cores_of inputs store) (cores_of inputs new) _ explored.grows leads) fine;
 }
 
-pub none_rest : (inputs : ℕ → List ℕ) (store : Store) → cores_of inputs store ≡ [] → AreQuiescent (cores_of inputs store)
-none_rest inputs store is = subst AreQuiescent (sym is) (record { each = λ i v e. absurd (none_is v e) })
+pub none_ready : (program : Program) (inputs : ℕ → List ℕ) (store : Store) (ms : List Move) → IsSound store → cores_of inputs store ≡ [] → ms ≡ [] → IsReady program inputs store ms
+none_ready program inputs store ms sound is none = record {
+  sound = sound;
+  rest = subst (AreResting program) (sym is) (record { each = λ i v e. absurd (none_is v e) });
+  true_moves = none_true program inputs store.kernels.kernels.items store.parts.privates.items ms none;
+}
 
 -- ---- Fine states
 

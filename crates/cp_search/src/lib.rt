@@ -3,12 +3,14 @@
 //!
 //! - `search`: expands states until each late step of each leads to a state that was seen.
 //! - `space`: the states that were seen, and what is noted of them.
+//! - `moving`: moves of one process, which are remembered.
 //! - `kinds`: the first states that have ended, are stuck, or have a fault.
 //!
 //! `specs/SearchResults.antt` defines what a search shows.
 #![tactic(auto)]
 
 mod kinds;
+mod moving;
 pub mod notes;
 pub mod search;
 mod space;

@@ -2,14 +2,14 @@
 
 ghost use Rattle.std.specs.Prelude.{◌≡◌, ◌≤◌, ◌<◌, ◌+◌, ℕ, List, IfOk, [], false, true};
 ghost use Rattle.cp_program.specs.View as view;
-ghost use Rattle.cp_law_calls.specs.Ways as plain;
 ghost use Rattle.cp_law_cores.specs.Clocks.{is_timeless};
 ghost use Rattle.cp_law_exploring.specs.Exploring.{count};
-ghost use Rattle.cp_search_states.specs.SearchStates.{input_of, way_view};
+ghost use Rattle.cp_search_states.specs.SearchStates.{input_of};
 ghost use Rattle.cp_search_store.specs.States.{cores_of, state_count, IsSound};
 ghost use Rattle.cp_search.specs.SearchResults.{HasExplored, HasExpanded, IsCoveredNow, IsReady, NothingIsStuck};
 
 use crate::kinds::{Kinds, kinds_of};
+use crate::moving::{is_late, move_of};
 use crate::notes::{Limits, Notes, Origin, Stop};
 use crate::space::{Space, are_fine};
 use cp_law_exploring::law;
@@ -18,7 +18,7 @@ use cp_program::program::Program;
 use cp_search_clock::timeless::is_timeless;
 use cp_search_states::settling::{advance, settle};
 use cp_search_states::state::SearchState;
-use cp_search_states::ways::Way;
+use cp_search_store::moves::Outcome;
 use std::alloc::{AllocError, Global};
 
 /// An observer of how far a search has come.
@@ -38,16 +38,9 @@ pub struct Explored {
     pub notes: Notes,
 }
 
-fn is_late(way: Way) -> bool
-    ensures yes { result ≡ true → way_view way ≡ plain.Late }
-    ensures no { result ≡ false → way_view way ≡ plain.Late → ⊥ }
-{
-    matches!(way, Way::Late)
-}
-
-// Makes the late step of process p from the state at an index, if its next step is late, and adds
-// the state to which it leads. Returns whether no limit was reached.
-fn cover_process(
+// Makes the late step of process p from the state at an index, with all private states, and adds the
+// state to which it leads. Returns whether no limit was reached.
+fn cover_widely(
     alloc: Global,
     program: &Program,
     inputs: &[Vec<u8>],
@@ -56,12 +49,13 @@ fn cover_process(
     p: usize,
 ) -> Result<bool, AllocError>
     requires timeless { is_timeless (view.program program.now) ≡ true }
-    requires ready { IsReady (input_of inputs.now) space.old.store }
+    requires ready { IsReady (view.program program.now) (input_of inputs.now)
+        space.old.store space.old.moves.moves.items }
     requires within { i < state_count space.old.store }
     requires first { 1 ≤ p }
     requires last { p ≤ count (view.program program.now) }
     ensures { IfOk result (λ done. done ≡ true → IsCoveredNow (view.program program.now)
-        (input_of inputs.now) i p space.old.store space.new.store) }
+        (input_of inputs.now) i p space.old.store space.new.store space.new.moves.moves.items) }
 {
     if !space.store.restore(i, &mut space.state)? {
         space.notes.stop = Some(Stop::Defect);
@@ -76,7 +70,41 @@ fn cover_process(
         space.notes.note_unsettled(program, &space.state);
         return Ok(false);
     }
-    space.add(alloc, Origin::of(i, p))
+    space.add(alloc, program, Origin::of(i, p))
+}
+
+// Makes the late step of process p from the state at an index, if its next step is late, and adds
+// the state to which it leads. Returns whether no limit was reached.
+fn cover_process(
+    alloc: Global,
+    program: &Program,
+    inputs: &[Vec<u8>],
+    space: &mut Space,
+    i: usize,
+    p: usize,
+) -> Result<bool, AllocError>
+    requires timeless { is_timeless (view.program program.now) ≡ true }
+    requires ready { IsReady (view.program program.now) (input_of inputs.now)
+        space.old.store space.old.moves.moves.items }
+    requires within { i < state_count space.old.store }
+    requires first { 1 ≤ p }
+    requires last { p ≤ count (view.program program.now) }
+    ensures { IfOk result (λ done. done ≡ true → IsCoveredNow (view.program program.now)
+        (input_of inputs.now) i p space.old.store space.new.store space.new.moves.moves.items) }
+{
+    let Some(key) = space.key(i, p) else {
+        space.notes.stop = Some(Stop::Defect);
+        return Ok(false);
+    };
+    let outcome = move_of(alloc, program, inputs, space, key)?;
+    match outcome {
+        Outcome::NotLate => Ok(true),
+        Outcome::Wide => cover_widely(alloc, program, inputs, space, i, p),
+        Outcome::Leads { kernel, part } => {
+            space.notes.note_transition();
+            space.add_exchanged(alloc, i, p, kernel, part)
+        }
+    }
 }
 
 // Makes the late steps of all processes from the state at an index.
@@ -88,10 +116,11 @@ fn expand(
     i: usize,
 ) -> Result<bool, AllocError>
     requires timeless { is_timeless (view.program program.now) ≡ true }
-    requires ready { IsReady (input_of inputs.now) space.old.store }
+    requires ready { IsReady (view.program program.now) (input_of inputs.now)
+        space.old.store space.old.moves.moves.items }
     requires within { i < state_count space.old.store }
     ensures { IfOk result (λ done. done ≡ true → HasExpanded (view.program program.now)
-        (input_of inputs.now) i space.old.store space.new.store) }
+        (input_of inputs.now) i space.old.store space.new.store space.new.moves.moves.items) }
 {
     for k in 0..program.processes() {
         if !cover_process(alloc, program, inputs, space, i, k + 1)? {
@@ -111,7 +140,8 @@ fn explore<W: Watch>(
     watch: &W,
 ) -> Result<bool, AllocError>
     requires timeless { is_timeless (view.program program.now) ≡ true }
-    requires ready { IsReady (input_of inputs.now) space.old.store }
+    requires ready { IsReady (view.program program.now) (input_of inputs.now)
+        space.old.store space.old.moves.moves.items }
     ensures { IfOk result (λ done. done ≡ true → HasExplored (view.program program.now)
         (input_of inputs.now) space.old.store space.new.store) }
 {
@@ -139,6 +169,7 @@ fn search_all<W: Watch>(
 ) -> Result<bool, AllocError>
     requires sound { IsSound space.old.store }
     requires none { (inputs : ℕ → List ℕ) → cores_of inputs space.old.store ≡ [] }
+    requires moves { space.old.moves.moves.items ≡ [] }
     ensures { IfOk result (λ fine. fine ≡ true
         → NothingIsStuck servers.now (view.program program.now) (input_of inputs.now)) }
 {
@@ -154,7 +185,7 @@ fn search_all<W: Watch>(
         space.notes.note_unsettled(program, &space.state);
         return Ok(false);
     }
-    if !space.add(alloc, Origin::START)? {
+    if !space.add(alloc, program, Origin::START)? {
         return Ok(false);
     }
     if !explore(alloc, program, inputs, space, watch)? {

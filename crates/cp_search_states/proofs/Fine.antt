@@ -8,7 +8,7 @@ use Rattle.cp_law_cores.specs.Cores.{Core, part}
 use Rattle.cp_law_cores.specs.Verdicts.{all_parts, can_move, is_sound, none_moves, part_passes}
 use Rattle.cp_law_servers.specs.Servers.{part_is_done, parts_are_done}
 use Rattle.cp_search_states.specs.SearchStates.{core_of}
-use Rattle.cp_search_states.specs.Sameness.{AllDone, AllPass, IsFine, OneMoves}
+use Rattle.cp_search_states.specs.Verdicts.{AllDone, AllPass, IsFine, OneMoves}
 use Rattle.cp_search_states.specs.declared.state.SearchState.{SearchState}
 
 all_from : (test : Activity → Bool) (c : Core) (n q : ℕ) → ((p : ℕ) → q ≤ p → p < q + n → part_passes test (part c.parts p) ≡ true)

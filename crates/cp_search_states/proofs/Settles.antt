@@ -21,7 +21,7 @@ use Rattle.cp_search_states.specs.SearchStates.{HasRun, HasTurned, IsNearer, cor
 
 -- ---- Kinds
 
-not_private : (program : Program) (o : PrivateState) → kind.Kernel ≡ kind_of program o → is_private_on program (Some o) ≡ false
+pub not_private : (program : Program) (o : PrivateState) → kind.Kernel ≡ kind_of program o → is_private_on program (Some o) ≡ false
 not_private program o h = by (is_running o.activity) (is_private o (operation_of program o)) h
   where
     by : (r x : Bool) → kind.Kernel ≡ (if r then (if x then kind.Private else (if needs_kernel o (operation_of program o) then kind.Kernel else kind.None)) else kind.None)

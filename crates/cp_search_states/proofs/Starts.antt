@@ -7,7 +7,7 @@ use Rattle.cp_model_machine.specs.Machines.{first_part, first_parts}
 use Rattle.cp_private.specs.States.{private_of}
 use Rattle.cp_private.specs.declared.private.Private.{Private}
 use Rattle.cp_kernel.specs.Turns.{parts_of}
-use Rattle.cp_search_states.specs.Sameness.{AreFirst}
+use Rattle.cp_search_states.specs.Verdicts.{AreFirst}
 
 from : (program : Program) (inputs : ℕ → List ℕ) (p : ℕ) (rows : List code.Process) (xs : List Private) → length xs ≡ length rows
     → ((i : ℕ) (x : Private) (row : code.Process) → slice_get xs i ≡ Some x → slice_get rows i ≡ Some row

@@ -1,2 +1,3 @@
 pub mod SearchStates
-pub mod Sameness
+pub mod Verdicts
+pub mod Alone

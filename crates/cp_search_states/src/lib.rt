@@ -4,11 +4,11 @@
 //! - `state`, `ways`: states, and the ways of their processes.
 //! - `steps`: a private turn, a kernel turn of one step, and the end of a round.
 //! - `settling`: eager steps until there is none, and a late step before them.
-//! - `copying`, `starting`, `verdicts`: copies and equal states, the first state, and whether a state is
-//!   neither faulted nor stuck.
+//! - `alone`: a kernel and the private state of one process, without the others.
+//! - `starting`, `verdicts`: the first state, and whether a state is neither faulted nor stuck.
 #![tactic(auto)]
 
-mod copying;
+pub mod alone;
 pub mod settling;
 mod starting;
 pub mod state;

@@ -5,7 +5,7 @@ ghost use Rattle.cp_model_machine.specs.Machines.{first_machine};
 ghost use Rattle.cp_law_cores.specs.Cores.{core};
 ghost use Rattle.cp_program.specs.View as view;
 ghost use Rattle.cp_search_states.specs.SearchStates.{core_of};
-ghost use Rattle.cp_search_states.specs.Sameness.{AreFirst};
+ghost use Rattle.cp_search_states.specs.Verdicts.{AreFirst};
 
 use crate::state::SearchState;
 use cp_kernel::kernel::Kernel;

@@ -22,7 +22,7 @@ use std::alloc::AllocError;
 pub const ONE_STEP: Turn = Turn { steps: 1 };
 
 /// The input of process p, from 1, or nothing if it has none.
-pub(crate) fn input_for(inputs: &[Vec<u8>], p: usize) -> &[u8]
+pub fn input_for(inputs: &[Vec<u8>], p: usize) -> &[u8]
     ensures { result.now ≡ input_at inputs.now (p - 1) }
 {
     match inputs.get(p.saturating_sub(1)) {
@@ -32,7 +32,7 @@ pub(crate) fn input_for(inputs: &[Vec<u8>], p: usize) -> &[u8]
 }
 
 // Makes a private turn, without what it writes.
-fn make_turn(
+pub(crate) fn make_turn(
     program: &Program,
     private: &mut Private,
     input: &[u8],
@@ -48,7 +48,7 @@ fn make_turn(
 }
 
 // Makes a kernel turn of one step. Returns whether there is such a process.
-fn make_step(
+pub(crate) fn make_step(
     program: &Program,
     kernel: &mut Kernel,
     private: &mut Private,

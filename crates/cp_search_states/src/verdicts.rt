@@ -11,7 +11,7 @@ ghost use Rattle.cp_program.specs.View as view;
 ghost use Rattle.cp_law_exploring.specs.Exploring.{count};
 ghost use Rattle.cp_law_servers.specs.Servers as served;
 ghost use Rattle.cp_search_states.specs.SearchStates.{core_of};
-ghost use Rattle.cp_search_states.specs.Sameness.{AllDone, AllPass, IsFine, OneMoves};
+ghost use Rattle.cp_search_states.specs.Verdicts.{AllDone, AllPass, IsFine, OneMoves};
 
 use crate::state::SearchState;
 use cp_kernel::kernel::Kernel;

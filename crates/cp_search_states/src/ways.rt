@@ -60,14 +60,14 @@ fn is_running(private: &Private) -> bool
     matches!(private.activity(), Activity::Running)
 }
 
-fn is_eager(way: Way) -> bool
+pub(crate) fn is_eager(way: Way) -> bool
     ensures yes { result ≡ true → way_view way ≡ plain.Eager }
     ensures no { result ≡ false → way_view way ≡ plain.Eager → ⊥ }
 {
     matches!(way, Way::Eager)
 }
 
-fn way_of(program: &Program, kernel: &Kernel, private: &Private) -> Way
+pub(crate) fn way_of(program: &Program, kernel: &Kernel, private: &Private) -> Way
     ensures { (input : List ℕ) → way_view result ≡ calls.way_on (view.program program.now)
         (kernel_of kernel.now) (Some (private_of private.now input)) }
 {

@@ -7,17 +7,18 @@ use Rattle.std.proofs.lemmas.List.{drop-append-le, get_or_append_left, length-ap
 use Rattle.std.proofs.lemmas.List.Elements.{All-append, All-drop, All-from_get_or, All-get_or, All-push, All-take, All-weaker}
 use Rattle.std.proofs.lemmas.Option.{get_or_from_slice_get, slice_get-get_or, slice_get_within}
 use Rattle.cp_law_cores.specs.Cores.{Core}
-use Rattle.cp_law_exploring.specs.Exploring.{AreQuiescent, Grows, IsQuiescent}
+use Rattle.cp_law_exploring.specs.Exploring.{Grows}
 use Rattle.cp_private.specs.declared.private.Private.{Private}
 use Rattle.cp_kernel.specs.declared.kernel.Kernel.{Kernel}
 use Rattle.cp_kernel.specs.Turns.{parts_of}
+use Rattle.cp_search_states.specs.Alone.{IsResting, core_from}
 use Rattle.cp_search_states.specs.SearchStates.{core_of}
 use Rattle.cp_search_states.specs.declared.state.SearchState.{SearchState}
-use Rattle.cp_search_states.proofs.Copies.{got_snoc, longer}
+use Rattle.cp_search_states.proofs.Items.{got_snoc, longer}
 use Rattle.cp_search_store.specs.Stored.{AreNumbered, Extends, IsKernelAt, kernel_at, parts_at, row}
-use Rattle.cp_search_store.specs.States.{IsAdded, IsBelow, IsNumbered, IsPushed, IsRowAt, IsSound, core_at, core_in, cores_of, listed, state_count}
+use Rattle.cp_search_store.specs.States.{AreResting, HasMoreParts, IsAdded, IsBelow, IsNumbered, IsPushed, IsRowAt, IsSound, core_at, core_in, core_numbered, cores_of, listed, state_count}
 use Rattle.cp_search_store.specs.declared.store.Store.{Store}
-use Rattle.cp_search_store.proofs.Numbered.{extended_length, got_last, kernel_kept, numbered_parts, numbered_within, parts_kept}
+use Rattle.cp_search_store.proofs.Numbered.{extended_length, extends_more, extends_not, got_last, kernel_kept, numbered_parts, numbered_within, parts_kept}
 use Rattle.cp_search_store.proofs.Listed.{contained, listed_count, listed_grows, listed_has, listed_stays}
 
 -- ---- Rows
@@ -62,47 +63,89 @@ below_more xs ys ns e all =
     let longer = extended_length xs ys e in
     All-weaker (IsBelow (length xs)) (IsBelow (length ys)) (λ n below. omega (arith, longer, below)) ns all
 
--- ---- Numbering
+-- Numbers of parts are those of parts that are there.
+all_within : (xs : List Private) (ns : List ℕ) (ys : List Private) → AreNumbered xs ns ys → All (IsBelow (length xs)) ns
+all_within xs ns ys h = All-from_get_or (IsBelow (length xs)) ns 0 (λ i below. numbered_within xs ns ys i (slice_index_or ns i 0) h (slice_get-get_or ns i 0 below))
 
-module _ (old new : Store) (state : SearchState) (k : ℕ) (numbers : List ℕ) (h : IsNumbered old state new k numbers) where
-  pub numbered_sound : IsSound old → IsSound new
-  numbered_sound s = record {
+-- ---- More parts
+
+module _ (old new : Store) (h : HasMoreParts old new) (s : IsSound old) where
+  pub more_sound : IsSound new
+  more_sound = record {
     room = ap (λ (l : List ℕ). length l) h.part_numbers ∙ (s.room ∙ λ i. length (sym h.kernel_numbers i) * sym h.width i);
     kernels = subst (All (IsBelow (length new.kernels.kernels.items))) (sym h.kernel_numbers) (below_more old.kernels.kernels.items new.kernels.kernels.items old.kernel_numbers.items h.kernels s.kernels);
     parts = subst (All (IsBelow (length new.parts.privates.items))) (sym h.part_numbers) (below_more old.parts.privates.items new.parts.privates.items old.part_numbers.items h.parts s.parts);
   }
 
-  numbered_kept : (inputs : ℕ → List ℕ) → IsSound old → (i : ℕ) → i < state_count old → core_at inputs new i ≡ core_at inputs old i
-  numbered_kept inputs s i below =
+  more_kept : (inputs : ℕ → List ℕ) → (i : ℕ) → i < state_count old → core_at inputs new i ≡ core_at inputs old i
+  more_kept inputs i below =
       (λ j. core_in inputs new.kernels.kernels.items new.parts.privates.items (h.width j) ((h.kernel_numbers ∙ append_nothing old.kernel_numbers.items) j)
       ((h.part_numbers ∙ append_nothing old.part_numbers.items) j) i)
       ∙ core_kept inputs old.kernels.kernels.items new.kernels.kernels.items old.parts.privates.items new.parts.privates.items old.width
       old.kernel_numbers.items [] old.part_numbers.items [] i h.kernels h.parts below s.room s.kernels s.parts
 
-  pub numbered_cores : (inputs : ℕ → List ℕ) → IsSound old → cores_of inputs new ≡ cores_of inputs old
-  numbered_cores inputs s =
-      listed_stays (core_at inputs old) (core_at inputs new) (state_count old) (state_count new) (numbered_kept inputs s) (ap (λ (l : List ℕ). length l) h.kernel_numbers)
+  pub more_cores : (inputs : ℕ → List ℕ) → cores_of inputs new ≡ cores_of inputs old
+  more_cores inputs =
+      listed_stays (core_at inputs old) (core_at inputs new) (state_count old) (state_count new) (more_kept inputs) (ap (λ (l : List ℕ). length l) h.kernel_numbers)
 
-  -- A state that has these numbers is the one that was numbered.
-  pub numbered_is : (inputs : ℕ → List ℕ) (i : ℕ) → IsRowAt new i k numbers → core_at inputs new i ≡ core_of inputs state
-  numbered_is inputs i at =
-      let number = get_or_from_slice_get new.kernel_numbers.items i k 0 at.kernel_is in
-      let kernel = ap (kernel_at new.kernels.kernels.items) number ∙ h.kernel_is.same in
-      let parts = ap (parts_at inputs new.parts.privates.items 1) at.row_is ∙ numbered_parts inputs new.parts.privates.items numbers state.privates.items h.parts_are in
+pub more_count : (old new : Store) → HasMoreParts old new → state_count new ≡ state_count old
+more_count old new h = ap (λ (l : List ℕ). length l) h.kernel_numbers
+
+pub more_twice : (a b c : Store) → HasMoreParts a b → HasMoreParts b c → HasMoreParts a c
+more_twice a b c g h = record {
+  kernels = extends_more a.kernels.kernels.items b.kernels.kernels.items c.kernels.kernels.items g.kernels h.kernels;
+  parts = extends_more a.parts.privates.items b.parts.privates.items c.parts.privates.items g.parts h.parts;
+  width = h.width ∙ g.width;
+  kernel_numbers = h.kernel_numbers ∙ g.kernel_numbers;
+  part_numbers = h.part_numbers ∙ g.part_numbers;
+}
+
+pub more_not : (s : Store) → HasMoreParts s s
+more_not s = record {
+  kernels = extends_not s.kernels.kernels.items s.kernels.kernels.items refl;
+  parts = extends_not s.parts.privates.items s.parts.privates.items refl;
+  width = refl;
+  kernel_numbers = refl;
+  part_numbers = refl;
+}
+
+-- ---- Numbering
+
+module _ (old new : Store) (state : SearchState) (k : ℕ) (numbers : List ℕ) (h : IsNumbered old state new k numbers) where
+  pub numbered_more : HasMoreParts old new
+  numbered_more = record { kernels = h.kernels; parts = h.parts; width = h.width; kernel_numbers = h.kernel_numbers; part_numbers = h.part_numbers }
+
+  -- The state that has these numbers is the one that was numbered.
+  pub numbered_is : (inputs : ℕ → List ℕ) → core_numbered inputs new k numbers ≡ core_of inputs state
+  numbered_is inputs =
+      let kernel = h.kernel_is.same in
+      let parts = numbered_parts inputs new.parts.privates.items numbers state.privates.items h.parts_are in
       λ j. record { kernel = kernel j; parts = parts j }
 
-  pub added_known : (i : ℕ) → IsRowAt new i k numbers → IsSound old → IsAdded old state new
-  added_known i at s = record {
-    sound = numbered_sound s;
-    grows = λ inputs. record { more = []; is = numbered_cores inputs s ∙ nothing (cores_of inputs old) };
-    known = λ inputs. listed_has (core_at inputs new) (state_count new) i (core_of inputs state)
-        (slice_get_within new.kernel_numbers.items i k at.kernel_is) (numbered_is inputs i at);
-    rest = λ inputs rest one. subst AreQuiescent (sym (numbered_cores inputs s)) rest;
-  }
-    where
-      nothing : (vs : List Core) → vs ≡ vs ++ []
-      nothing [] = refl
-      nothing (v ∷ vs) = ap (λ l. v ∷ l) (nothing vs)
+  pub numbered_below : All (IsBelow (length new.parts.privates.items)) numbers
+  numbered_below = all_within new.parts.privates.items numbers state.privates.items h.parts_are
+
+-- ---- Known states
+
+core_is : (inputs : ℕ → List ℕ) (s : Store) (i k : ℕ) (numbers : List ℕ) → IsRowAt s i k numbers → core_at inputs s i ≡ core_numbered inputs s k numbers
+core_is inputs s i k numbers at =
+    let number = get_or_from_slice_get s.kernel_numbers.items i k 0 at.kernel_is in
+    λ j. record { kernel = kernel_at s.kernels.kernels.items (number j); parts = parts_at inputs s.parts.privates.items 1 (at.row_is j) }
+
+pub added_known : (s : Store) (i k : ℕ) (numbers : List ℕ) → IsRowAt s i k numbers → IsSound s → IsAdded s k numbers s
+added_known s i k numbers at sound = record {
+  sound = sound;
+  kernels = refl;
+  parts = refl;
+  grows = λ inputs. record { more = []; is = nothing (cores_of inputs s) };
+  known = λ inputs. listed_has (core_at inputs s) (state_count s) i (core_numbered inputs s k numbers)
+      (slice_get_within s.kernel_numbers.items i k at.kernel_is) (core_is inputs s i k numbers at);
+  rest = λ program inputs rest one. rest;
+}
+  where
+    nothing : (vs : List Core) → vs ≡ vs ++ []
+    nothing [] = refl
+    nothing (v ∷ vs) = ap (λ l. v ∷ l) (nothing vs)
 
 -- ---- Pushing
 
@@ -145,33 +188,29 @@ module _ (old new : Store) (k : ℕ) (numbers : List ℕ) (h : IsPushed old k nu
             (subst (All (IsBelow (length old.parts.privates.items))) (sym h.part_numbers) (All-append (IsBelow (length old.parts.privates.items)) old.part_numbers.items numbers s.parts all));
       }
 
--- Numbers of parts are those of parts that are there.
-all_within : (xs : List Private) (ns : List ℕ) (ys : List Private) → AreNumbered xs ns ys → All (IsBelow (length xs)) ns
-all_within xs ns ys h = All-from_get_or (IsBelow (length xs)) ns 0 (λ i below. numbered_within xs ns ys i (slice_index_or ns i 0) h (slice_get-get_or ns i 0 below))
-
--- A state that was numbered, and then pushed.
-pub added_new : (old mid new : Store) (state : SearchState) (k : ℕ) (numbers : List ℕ) → IsNumbered old state mid k numbers → IsPushed mid k numbers new
-    → length numbers ≡ mid.width → IsSound old → IsAdded old state new
-added_new old mid new state k numbers h g long s =
-    let sound = numbered_sound old mid state k numbers h s in
-    let pushed = pushed_cores mid new k numbers g sound long in
-    let at = pushed_row mid new k numbers g sound long in
-    let same : (inputs : ℕ → List ℕ) → core_at inputs new (state_count mid) ≡ core_of inputs state = λ inputs.
-    let number = get_or_from_slice_get new.kernel_numbers.items (state_count mid) k 0 at.kernel_is in
-    let kernel = (λ j. kernel_at (g.kernels j).kernels.items (number j)) ∙ h.kernel_is.same in
-    let parts = (λ j. parts_at inputs (g.parts j).privates.items 1 (at.row_is j)) ∙ numbered_parts inputs mid.parts.privates.items numbers state.privates.items h.parts_are in
-    λ j. record { kernel = kernel j; parts = parts j } in
-    let cores : (inputs : ℕ → List ℕ) → cores_of inputs new ≡ cores_of inputs old ++ core_of inputs state ∷ [] = λ inputs.
-    pushed inputs ∙ λ j. numbered_cores old mid state k numbers h inputs s j ++ same inputs j ∷ [] in
+-- A state that was pushed.
+pub added_new : (old new : Store) (k : ℕ) (numbers : List ℕ) → IsPushed old k numbers new → length numbers ≡ old.width → IsSound old
+    → k < length old.kernels.kernels.items → All (IsBelow (length old.parts.privates.items)) numbers → IsAdded old k numbers new
+added_new old new k numbers g long s below all =
+    let pushed = pushed_cores old new k numbers g s long in
+    let at = pushed_row old new k numbers g s long in
+    let same : (inputs : ℕ → List ℕ) → core_at inputs new (state_count old) ≡ core_numbered inputs old k numbers = λ inputs.
+    core_is inputs new (state_count old) k numbers at
+    ∙ λ j. core_from (kernel_at (g.kernels j).kernels.items k) (parts_at inputs (g.parts j).privates.items 1 numbers) in
+    let cores : (inputs : ℕ → List ℕ) → cores_of inputs new ≡ cores_of inputs old ++ core_numbered inputs old k numbers ∷ [] = λ inputs.
+    pushed inputs ∙ λ j. cores_of inputs old ++ same inputs j ∷ [] in
     record {
-      sound = pushed_sound mid new k numbers g sound long h.kernel_is.within (all_within mid.parts.privates.items numbers state.privates.items h.parts_are);
-      grows = λ inputs. record { more = core_of inputs state ∷ []; is = cores inputs };
-      known = λ inputs. subst (λ vs. Contains vs (core_of inputs state)) (sym (cores inputs))
-          (contained (cores_of inputs old ++ core_of inputs state ∷ []) (length (cores_of inputs old)) (core_of inputs state) (got_last (cores_of inputs old) (core_of inputs state)));
-      rest = λ inputs rest one. subst AreQuiescent (sym (cores inputs)) (record {
+      sound = pushed_sound old new k numbers g s long below all;
+      kernels = λ j. (g.kernels j).kernels.items;
+      parts = λ j. (g.parts j).privates.items;
+      grows = λ inputs. record { more = core_numbered inputs old k numbers ∷ []; is = cores inputs };
+      known = λ inputs. subst (λ vs. Contains vs (core_numbered inputs old k numbers)) (sym (cores inputs))
+          (contained (cores_of inputs old ++ core_numbered inputs old k numbers ∷ []) (length (cores_of inputs old)) (core_numbered inputs old k numbers)
+          (got_last (cores_of inputs old) (core_numbered inputs old k numbers)));
+      rest = λ program inputs rest one. subst (AreResting program) (sym (cores inputs)) (record {
         each = λ i v e.
             ⊎_elim (λ (was : slice_get (cores_of inputs old) i ≡ Some v). rest.each i v was)
-            (λ (last : (i ≡ length (cores_of inputs old)) × (core_of inputs state ≡ v)). subst IsQuiescent last.1 one)
-            (got_snoc (cores_of inputs old) (core_of inputs state) i v e);
+            (λ (last : (i ≡ length (cores_of inputs old)) × (core_numbered inputs old k numbers ≡ v)). subst (IsResting program) last.1 one)
+            (got_snoc (cores_of inputs old) (core_numbered inputs old k numbers) i v e);
       });
     }

@@ -1,3 +1,4 @@
 pub mod Numbered
 pub mod Listed
 pub mod Growing
+pub mod Made

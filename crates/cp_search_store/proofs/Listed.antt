@@ -5,7 +5,7 @@ use Rattle.std.proofs.lemmas.Bool.{eqb-false, eqb-true}
 use Rattle.std.proofs.lemmas.Option.{get_or_from_slice_get, slice_get_within}
 use Rattle.cp_law_cores.specs.Cores.{Core}
 use Rattle.cp_law_exploring.specs.Exploring.{Grows}
-use Rattle.cp_search_states.proofs.Copies.{longer}
+use Rattle.cp_search_states.proofs.Items.{longer}
 use Rattle.cp_search_store.specs.States.{listed}
 use Rattle.cp_search_store.proofs.Numbered.{got_front, got_last}
 

@@ -12,7 +12,7 @@ use Rattle.cp_private.specs.declared.private.Private.{Private}
 use Rattle.cp_kernel.specs.KernelOf.{kernel_of}
 use Rattle.cp_kernel.specs.Turns.{parts_of}
 use Rattle.cp_kernel.specs.declared.kernel.Kernel.{Kernel}
-use Rattle.cp_search_states.proofs.Copies.{got_snoc, longer}
+use Rattle.cp_search_states.proofs.Items.{got_snoc, longer}
 use Rattle.cp_search_store.specs.Stored.{AreNumbered, AreNumberedBelow, Extends, IsKernelAt, IsPartAt, kernel_at, kernel_or_none, part_at, part_or_none, parts_at}
 
 module _ {A : Type 0} where

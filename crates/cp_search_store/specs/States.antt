@@ -1,14 +1,18 @@
 -- The states that a store has, as cores.
-use Rattle.std.specs.Prelude.{All, Contains, List, Some, [], length, slice_get, slice_index_or, suc, zero, ℕ, ◌*◌, ◌++◌, ◌<◌, ◌∷◌, ◌≡◌}
+use Rattle.std.specs.Prelude.{All, Contains, List, [], Some, length, slice_get, slice_index_or, suc, zero, ℕ, ◌*◌, ◌++◌, ◌<◌, ◌∷◌, ◌≡◌}
 use Rattle.cp_model_machine.specs.KernelSteps as plain
 use Rattle.cp_model_machine.specs.PrivateStates.{PrivateState}
 use Rattle.cp_law_cores.specs.Cores.{Core}
-use Rattle.cp_law_exploring.specs.Exploring.{AreQuiescent, Grows, IsQuiescent}
+use Rattle.cp_model_program.specs.Programs.{Program}
+use Rattle.cp_law_exploring.specs.Exploring.{Grows}
 use Rattle.cp_private.specs.declared.private.Private.{Private}
 use Rattle.cp_kernel.specs.declared.kernel.Kernel.{Kernel}
-use Rattle.cp_search_states.specs.SearchStates.{core_of}
+use Rattle.cp_search_states.specs.Alone.{IsResting, core_from}
+use Rattle.cp_private.specs.States.{private_of}
+use Rattle.cp_kernel.specs.KernelOf.{kernel_of}
+use Rattle.cp_search_states.specs.declared.alone.Lone.{Lone}
 use Rattle.cp_search_states.specs.declared.state.SearchState.{SearchState}
-use Rattle.cp_search_store.specs.Stored.{AreNumbered, Extends, IsKernelAt, kernel_at, parts_at, row}
+use Rattle.cp_search_store.specs.Stored.{AreNumbered, Extends, IsKernelAt, kernel_at, part_at, parts_at, row}
 use Rattle.cp_search_store.specs.declared.store.Store.{Store}
 
 -- The first `n` cores that `f` gives.
@@ -79,9 +83,34 @@ pub record IsPushed (old : Store) (kernel : ℕ) (numbers : List ℕ) (new : Sto
   pub kernel_numbers : new.kernel_numbers.items ≡ old.kernel_numbers.items ++ kernel ∷ []
   pub part_numbers : new.part_numbers.items ≡ old.part_numbers.items ++ numbers
 
--- The store has been made one that has the state.
-pub record IsAdded (old : Store) (state : SearchState) (new : Store) : Type 0 where
+-- Parts may have been added, and no states.
+pub record HasMoreParts (old new : Store) : Type 0 where
+  pub kernels : Extends old.kernels.kernels.items new.kernels.kernels.items
+  pub parts : Extends old.parts.privates.items new.parts.privates.items
+  pub width : new.width ≡ old.width
+  pub kernel_numbers : new.kernel_numbers.items ≡ old.kernel_numbers.items
+  pub part_numbers : new.part_numbers.items ≡ old.part_numbers.items
+
+-- The kernel and the private state with these numbers.
+pub record IsLone (s : Store) (kernel part : ℕ) (lone : Lone) : Type 0 where
+  pub kernel_below : kernel < length s.kernels.kernels.items
+  pub part_below : part < length s.parts.privates.items
+  pub kernel_is : kernel_at s.kernels.kernels.items kernel ≡ kernel_of lone.kernel
+  pub part_is : (input : List ℕ) → part_at s.parts.privates.items part input ≡ private_of lone.private input
+
+-- All cores are settled and at rest.
+pub record AreResting (program : Program) (vs : List Core) : Type 0 where
+  pub each : (i : ℕ) (v : Core) → slice_get vs i ≡ Some v → IsResting program v
+
+-- The core whose parts have these numbers.
+abbrev pub core_numbered : (ℕ → List ℕ) → Store → ℕ → List ℕ → Core
+core_numbered inputs s kernel numbers = core_from (kernel_at s.kernels.kernels.items kernel) (parts_at inputs s.parts.privates.items 1 numbers)
+
+-- The store has been made one that has the state whose parts have these numbers.
+pub record IsAdded (old : Store) (kernel : ℕ) (numbers : List ℕ) (new : Store) : Type 0 where
   pub sound : IsSound new
+  pub kernels : new.kernels.kernels.items ≡ old.kernels.kernels.items
+  pub parts : new.parts.privates.items ≡ old.parts.privates.items
   pub grows : (inputs : ℕ → List ℕ) → Grows (cores_of inputs old) (cores_of inputs new)
-  pub known : (inputs : ℕ → List ℕ) → Contains (cores_of inputs new) (core_of inputs state)
-  pub rest : (inputs : ℕ → List ℕ) → AreQuiescent (cores_of inputs old) → IsQuiescent (core_of inputs state) → AreQuiescent (cores_of inputs new)
+  pub known : (inputs : ℕ → List ℕ) → Contains (cores_of inputs new) (core_numbered inputs old kernel numbers)
+  pub rest : (program : Program) (inputs : ℕ → List ℕ) → AreResting program (cores_of inputs old) → IsResting program (core_numbered inputs old kernel numbers) → AreResting program (cores_of inputs new)

@@ -91,6 +91,16 @@ impl Kernels {
         Ok(number)
     }
 
+    /// The kernel with a number.
+    pub(crate) fn get(&self, number: u32) -> Option<&Kernel>
+        ensures { IfSome result (λ k. IsKernelAt self.now.kernels.items number k.now) }
+    {
+        match self.kernels.get(number as usize) {
+            Some(known) => Some(known),
+            None => None,
+        }
+    }
+
     /// Makes a kernel the one with a number. Returns whether it could.
     ///
     /// # Errors

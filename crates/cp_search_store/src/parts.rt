@@ -74,8 +74,8 @@ impl Parts {
         }
     }
 
-    // The number of a private state, which is added if it is new.
-    fn number(&mut self, alloc: Global, private: &Private) -> Result<u32, AllocError>
+    /// The number of a private state, which is added if it is new.
+    pub(crate) fn number(&mut self, alloc: Global, private: &Private) -> Result<u32, AllocError>
         ensures grows { OnOk result (Extends self.old.privates.items self.new.privates.items) }
         ensures is { IfOk result (λ n. IsPartAt self.new.privates.items n private.now) }
     {
@@ -110,6 +110,16 @@ impl Parts {
             numbers.push(number)?;
         }
         Ok(())
+    }
+
+    /// The private state with a number.
+    pub(crate) fn get(&self, number: u32) -> Option<&Private>
+        ensures { IfSome result (λ x. IsPartAt self.now.privates.items number x.now) }
+    {
+        match self.privates.get(number as usize) {
+            Some(known) => Some(known.private()),
+            None => None,
+        }
     }
 
     // Makes a private state the one with a number. Returns whether it could.

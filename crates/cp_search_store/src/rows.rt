@@ -1,6 +1,6 @@
 //! Rows: the numbers of the private states of each state, one row after another.
 
-ghost use Rattle.std.specs.Prelude.{◌≡◌, IfSome, true};
+ghost use Rattle.std.specs.Prelude.{◌≡◌, IfSome, Some, slice_get, true};
 ghost use Rattle.cp_search_store.specs.Stored.{row};
 
 use cp_private::hashing::mix;
@@ -15,6 +15,16 @@ pub(crate) fn row_at(numbers: &[u32], width: usize, index: usize) -> Option<&[u3
         return None;
     }
     Some(&numbers[start..end])
+}
+
+/// The number at an index.
+pub(crate) fn number_at(numbers: &[u32], index: usize) -> Option<u32>
+    ensures { IfSome result (λ n. slice_get numbers.now index ≡ Some n) }
+{
+    match numbers.get(index) {
+        Some(number) => Some(*number),
+        None => None,
+    }
 }
 
 /// Whether two rows are the same.

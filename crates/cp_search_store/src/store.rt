@@ -1,17 +1,20 @@
 //! The states that a search has seen.
 
-ghost use Rattle.std.specs.Prelude.{◌≡◌, ℕ, List, [], IfOk, OnOk, true};
+ghost use Rattle.std.specs.Prelude.{◌≡◌, ◌<◌, ◌-◌, ℕ, List, [], All, IfOk, IfSome, OnOk, Some, length, slice_get, true};
 ghost use Rattle.cp_kernel.specs.KernelOf.{kernel_of};
 ghost use Rattle.cp_kernel.specs.Turns.{parts_of};
 ghost use Rattle.cp_search_states.specs.SearchStates.{core_of};
-ghost use Rattle.cp_search_store.specs.States.{HasRow, IsAdded, IsNumbered, IsPushed, IsRowAt, IsSound, core_at, cores_of, kernel_in, parts_in, state_count};
+ghost use Rattle.cp_search_store.specs.Stored.{IsKernelAt, IsPartAt, row};
+ghost use Rattle.cp_search_store.specs.States.{HasMoreParts, HasRow, IsAdded, IsBelow, IsLone, IsNumbered, IsPushed, IsRowAt, IsSound, core_at, cores_of, kernel_in, parts_in, state_count};
 
 use crate::hints::Hints;
 use crate::kernels::Kernels;
 use crate::parts::Parts;
-use crate::rows::{hash_of, is_same_row, row_at};
+use crate::rows::{hash_of, is_same_row, number_at, row_at};
 use cp_kernel::kernel::Kernel;
+use cp_private::private::Private;
 use cp_private::private_box::PrivateBox;
+use cp_search_states::alone::Lone;
 use cp_search_states::state::SearchState;
 use std::alloc::{AllocError, Global};
 
@@ -72,6 +75,50 @@ impl Store {
         self.kernel_numbers.len()
     }
 
+    /// The number of the kernel of the state with an index.
+    pub fn kernel_number(&self, index: usize) -> Option<u32>
+        ensures { IfSome result (λ k. slice_get self.now.kernel_numbers.items index ≡ Some k) }
+    {
+        number_at(&self.kernel_numbers, index)
+    }
+
+    /// The numbers of the private states of the state with an index.
+    pub fn row(&self, index: usize) -> Option<&[u32]>
+        ensures { IfSome result
+            (λ r. r.now ≡ row self.now.width self.now.part_numbers.items index) }
+    {
+        row_at(&self.part_numbers, self.width, index)
+    }
+
+    /// The number of the private state of process p in the state with an index.
+    pub fn part_number(&self, index: usize, p: usize) -> Option<u32>
+        ensures { IfSome result (λ n. slice_get
+            (row self.now.width self.now.part_numbers.items index) (p - 1) ≡ Some n) }
+    {
+        match self.row(index) {
+            Some(numbers) => number_at(numbers, p.saturating_sub(1)),
+            None => None,
+        }
+    }
+
+    /// The kernel and the private state with these numbers, copied.
+    ///
+    /// # Errors
+    ///
+    /// `AllocError` if memory runs out.
+    pub fn lone(&self, alloc: Global, kernel: u32, part: u32) -> Result<Option<Lone>, AllocError>
+        ensures { IfOk result (λ lone. IfSome lone (IsLone self.now kernel part)) }
+    {
+        let Some(known_kernel) = self.kernels.get(kernel) else {
+            return Ok(None);
+        };
+        let Some(known_part) = self.parts.get(part) else {
+            return Ok(None);
+        };
+        let lone = Lone::of(alloc, known_kernel, known_part)?;
+        Ok(Some(lone))
+    }
+
     // How many bytes of memory the states take, about.
     fn size(&self) -> usize {
         let numbers = self.kernel_numbers.len() + self.part_numbers.len();
@@ -84,11 +131,11 @@ impl Store {
             .saturating_add(self.hints.size())
     }
 
-    /// Which limit is reached, if one is.
-    pub fn full(&self) -> Option<Full> {
+    /// Which limit is reached, if one is. The search takes `beside` more bytes.
+    pub fn full(&self, beside: usize) -> Option<Full> {
         if self.room.states as usize <= self.kernel_numbers.len() {
             Some(Full::States)
-        } else if self.room.memory <= self.size() {
+        } else if self.room.memory <= self.size().saturating_add(beside) {
             Some(Full::Memory)
         } else {
             None
@@ -125,8 +172,39 @@ impl Store {
         false
     }
 
-    // The numbers of the parts of a state. New parts are added.
-    fn number(
+    /// The number of a kernel, which is added if it is new.
+    ///
+    /// # Errors
+    ///
+    /// `AllocError` if memory runs out.
+    pub fn number_kernel(&mut self, alloc: Global, kernel: &Kernel) -> Result<u32, AllocError>
+        ensures parts { OnOk result (HasMoreParts self.old self.new) }
+        ensures is { IfOk result (λ n. IsKernelAt self.new.kernels.kernels.items n kernel.now) }
+    {
+        let number = self.kernels.number(alloc, kernel)?;
+        Ok(number)
+    }
+
+    /// The number of a private state, which is added if it is new.
+    ///
+    /// # Errors
+    ///
+    /// `AllocError` if memory runs out.
+    pub fn number_part(&mut self, alloc: Global, private: &Private) -> Result<u32, AllocError>
+        ensures parts { OnOk result (HasMoreParts self.old self.new) }
+        ensures is { IfOk result (λ n. IsPartAt self.new.parts.privates.items n private.now) }
+    {
+        let number = self.parts.number(alloc, private)?;
+        Ok(number)
+    }
+
+    /// The numbers of the parts of a state: that of its kernel, and in `row` those of its private
+    /// states. New parts are added.
+    ///
+    /// # Errors
+    ///
+    /// `AllocError` if memory runs out.
+    pub fn number(
         &mut self,
         alloc: Global,
         state: &SearchState,
@@ -159,29 +237,35 @@ impl Store {
         Ok(())
     }
 
-    /// Adds a state, unless there is one with the same content or a limit is reached. Returns
-    /// whether the store has it.
+    /// Adds the state whose parts have these numbers, unless the store has it or a limit is
+    /// reached. Returns whether the store has it. The search takes `beside` more bytes.
     ///
     /// # Errors
     ///
     /// `AllocError` if memory runs out.
-    pub fn add(&mut self, alloc: Global, state: &SearchState) -> Result<bool, AllocError>
-        requires { IsSound self.old }
-        ensures { IfOk result (λ added. added ≡ true → IsAdded self.old state.now self.new) }
+    pub fn add(
+        &mut self,
+        alloc: Global,
+        kernel: u32,
+        row: &[u32],
+        beside: usize,
+    ) -> Result<bool, AllocError>
+        requires sound { IsSound self.old }
+        requires kernel { kernel < length self.old.kernels.kernels.items }
+        requires parts { All (IsBelow (length self.old.parts.privates.items)) row.now }
+        ensures { IfOk result (λ added. added ≡ true → IsAdded self.old kernel row.now self.new) }
     {
-        let mut row = Vec::with_capacity(alloc, self.width)?;
-        let kernel = self.number(alloc, state, &mut row)?;
-        let hash = hash_of(kernel, &row);
-        if self.has_row(kernel, &row, hash) {
+        let hash = hash_of(kernel, row);
+        if self.has_row(kernel, row, hash) {
             return Ok(true);
         }
         if row.len() != self.width {
             return Ok(false);
         }
-        if self.full().is_some() {
+        if self.full(beside).is_some() {
             return Ok(false);
         }
-        self.push(alloc, kernel, &row, hash)?;
+        self.push(alloc, kernel, row, hash)?;
         Ok(true)
     }
 

@@ -33,5 +33,5 @@ loop-k-preserved c =
       grows = grows_more (cores_of inputs c.args.space.now.store) (cores_of inputs old) (cores_of inputs new) was.grows done.grows;
       ready = done.ready;
       within = omega (arith, longer, within);
-      expanded = expanded_one program inputs i c.loop-k.k old new within was.expanded done;
+      expanded = expanded_one program inputs i c.loop-k.k old new c.cover_process.new.space.moves.moves.items within was.expanded done;
     }

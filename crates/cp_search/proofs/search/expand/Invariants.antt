@@ -9,7 +9,7 @@ use Rattle.cp_search.proofs.search.expand.Given as goal
 abbrev pub invariant-loop-k : goal.invariant-loop-k
 invariant-loop-k l = record {
   grows : Grows (cores_of (input_of l.inputs) l.fn.space.store) (cores_of (input_of l.inputs) l.space.store);
-  ready : IsReady (input_of l.inputs) l.space.store;
+  ready : IsReady (view.program l.program) (input_of l.inputs) l.space.store l.space.moves.moves.items;
   within : l.i < state_count l.space.store;
   expanded : IsCoveredBelow (view.program l.program) (cores_of (input_of l.inputs) l.space.store) l.i (l.k + 1);
 }

@@ -33,7 +33,7 @@ loop-i-preserved g c =
       grows = grows_more (cores_of inputs c.args.space.now.store) (cores_of inputs old) (cores_of inputs new) was.grows done.grows;
       ready = done.ready;
       within = omega (arith, longer, within);
-      expanded = explored_one program inputs i old new within was.expanded done;
+      expanded = explored_one program inputs i old new c.expand.new.space.moves.moves.items within was.expanded done;
     }
 
 pub returns-then-len-i : goal.returns-then-len-i

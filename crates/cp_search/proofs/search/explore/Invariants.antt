@@ -9,7 +9,7 @@ use Rattle.cp_search.proofs.search.explore.Given as goal
 abbrev pub invariant-loop-i : goal.invariant-loop-i
 invariant-loop-i g l = record {
   grows : Grows (cores_of (input_of l.inputs) l.fn.space.store) (cores_of (input_of l.inputs) l.space.store);
-  ready : IsReady (input_of l.inputs) l.space.store;
+  ready : IsReady (view.program l.program) (input_of l.inputs) l.space.store l.space.moves.moves.items;
   within : l.i ≤ state_count l.space.store;
   expanded : AreExpanded (view.program l.program) (cores_of (input_of l.inputs) l.space.store) l.i;
 }

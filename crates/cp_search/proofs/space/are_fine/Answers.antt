@@ -1,7 +1,7 @@
 use Rattle.std.proofs.Common.{◌≡◌, subst, arith}
 use Rattle.cp_program.specs.View as view
 use Rattle.cp_law_exploring.specs.Exploring.{count}
-use Rattle.cp_search_states.specs.Sameness.{IsFine}
+use Rattle.cp_search_states.specs.Verdicts.{IsFine}
 use Rattle.cp_search_store.specs.States.{state_count}
 use Rattle.cp_search.proofs.Searched.{AreFineBelow, fine_all, fine_more, fine_none}
 use Rattle.cp_search.proofs.space.are_fine.Goals as goal

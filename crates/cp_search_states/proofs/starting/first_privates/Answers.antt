@@ -3,9 +3,9 @@ use Rattle.cp_private.specs.States.{private_of}
 use Rattle.cp_private.specs.declared.private.Private.{Private}
 use Rattle.cp_model_machine.specs.Machines.{first_part}
 use Rattle.cp_program.specs.View as view
-use Rattle.cp_search_states.proofs.Copies.{got_snoc}
-use Rattle.cp_search_states.specs.Sameness.{AreFirst}
-use Rattle.cp_search_states.proofs.Copies.{longer}
+use Rattle.cp_search_states.proofs.Items.{got_snoc}
+use Rattle.cp_search_states.specs.Verdicts.{AreFirst}
+use Rattle.cp_search_states.proofs.Items.{longer}
 use Rattle.cp_search_states.proofs.starting.first_privates.Goals as goal
 
 pub loop-i-preserved : goal.loop-i-preserved

@@ -1,6 +1,6 @@
 use Rattle.std.proofs.Common.{◌≡◌, length}
 use Rattle.cp_program.specs.View as view
-use Rattle.cp_search_states.specs.Sameness.{AreFirst}
+use Rattle.cp_search_states.specs.Verdicts.{AreFirst}
 use Rattle.cp_search_states.proofs.starting.first_privates.Given as goal
 
 abbrev pub invariant-loop-i : goal.invariant-loop-i

@@ -1,7 +1,7 @@
 use Rattle.std.proofs.Common.{List, ℕ, Some, length, slice_get, subst, sym, ap, refl, ◌≡◌, ◌∙◌, arith}
 use Rattle.std.proofs.lemmas.Option.{slice_get-get_or}
 use Rattle.cp_private.specs.declared.private.Private.{Private}
-use Rattle.cp_search_states.proofs.Copies.{longer}
+use Rattle.cp_search_states.proofs.Items.{longer}
 use Rattle.cp_search_store.specs.Stored.{AreNumberedBelow}
 use Rattle.cp_search_store.proofs.Numbered.{extends_more, extends_not, numbered_grown, numbered_none, numbered_push}
 use Rattle.cp_search_store.proofs.parts.Parts.number_all.Goals as goal
