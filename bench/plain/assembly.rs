@@ -159,6 +159,20 @@ pub fn zeros(at: u32, count: u32) -> Vec<Fill> {
     }]
 }
 
+/// The start of a process without parameters, at a place. Its variables fill its own words from the second one on, and it
+/// calls one routine at a time, which takes the rest of the words.
+pub fn start_at(place: u32, own: u32, words: usize) -> Start {
+    Start {
+        place,
+        own,
+        words,
+        temps: 2,
+        frames: 1,
+        parameters: vec![],
+        variables: vec![1..own as usize],
+    }
+}
+
 /// The program of one process.
 pub fn alone(operations: Vec<Operation>, units: Vec<Unit>, start: Start) -> Program {
     Program {

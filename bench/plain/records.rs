@@ -1,11 +1,11 @@
 //! The program of `texts/records.cp`.
 
 use crate::assembly::{
-    alone, call, counting, local, member, negative, set, set_local, set_member, start_for, term,
-    unit, variable, zeros,
+    alone, call, counting, local, member, negative, set, set_local, set_member, start_at,
+    start_for, term, unit, variable, zeros,
 };
 use crate::program::{
-    Argument, Index, Operand, Operation, Operator, Program, Root, Spot, Start, Target, Term,
+    Argument, Index, Operand, Operation, Operator, Program, Root, Spot, Target, Term,
 };
 
 /// The table that a routine gets.
@@ -107,14 +107,5 @@ fn body() -> Vec<Operation> {
 pub fn program() -> Program {
     let operations = [refill(), sort(), body()].into_iter().flatten().collect();
     let units = vec![unit(5, zeros(1, 1)), unit(15, zeros(1, 4))];
-    let start = Start {
-        place: 17,
-        own: 125,
-        words: 130,
-        temps: 2,
-        frames: 1,
-        parameters: vec![],
-        variables: vec![1..125],
-    };
-    alone(operations, units, start)
+    alone(operations, units, start_at(17, 125, 130))
 }

@@ -1,11 +1,11 @@
 //! The program of `texts/sorting.cp`.
 
 use crate::assembly::{
-    alone, call, counting, local, member, negative, set, set_local, set_member, start_for, term,
-    unit, variable, zeros,
+    alone, call, counting, local, member, negative, set, set_local, set_member, start_at,
+    start_for, term, unit, variable, zeros,
 };
 use crate::program::{
-    Argument, Index, Operand, Operation, Operator, Program, Root, Spot, Start, Target, Term,
+    Argument, Index, Operand, Operation, Operator, Program, Root, Spot, Target, Term,
 };
 
 /// An element of the table in `sorting.cp`.
@@ -98,14 +98,5 @@ pub fn program() -> Program {
         .flatten()
         .collect();
     let units = vec![unit(4, zeros(0, 1)), unit(14, zeros(1, 3))];
-    let start = Start {
-        place: 16,
-        own: 104,
-        words: 108,
-        temps: 2,
-        frames: 1,
-        parameters: vec![],
-        variables: vec![1..104],
-    };
-    alone(operations, units, start)
+    alone(operations, units, start_at(16, 104, 108))
 }
