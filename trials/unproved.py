@@ -36,7 +36,7 @@ FLAGS = ('-march=x86-64', '-O3', '-fPIE', '-ffunction-sections', '-fdata-section
 ) for word in ('-mllvm', flag)))
 # The compiler drops `inline(always)` from functions that would grow very large: these have a body of their own in the module of the proved program, as
 # `define` lines of that module show.
-DROPPED = {('Private', 'take_fast_step')}
+DROPPED = {('Term', 'fast_value')}
 
 
 def copy_kit(folder, module):
