@@ -159,6 +159,14 @@ pub fn zeros(at: u32, count: u32) -> Vec<Fill> {
     }]
 }
 
+/// The number after the one in a variable, as `sorting.cp` and `records.cp` make numbers.
+pub fn next_seed(seed: u32) -> Term {
+    member(seed)
+        .then(Operator::Multiply, 17)
+        .then(Operator::Add, 59)
+        .then(Operator::Modulo, 1009)
+}
+
 /// The start of a process without parameters, at a place. Its variables fill its own words from the second one on, and it
 /// calls one routine at a time, which takes the rest of the words.
 pub fn start_at(place: u32, own: u32, words: usize) -> Start {

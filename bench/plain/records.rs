@@ -1,8 +1,8 @@
 //! The program of `texts/records.cp`.
 
 use crate::assembly::{
-    alone, call, counting, local, member, negative, set, set_local, set_member, start_at,
-    start_for, term, unit, variable, zeros,
+    alone, call, counting, local, member, negative, next_seed, set, set_local, set_member,
+    start_at, start_for, term, unit, variable, zeros,
 };
 use crate::program::{
     Argument, Index, Operand, Operation, Operator, Program, Root, Spot, Target, Term,
@@ -40,16 +40,12 @@ fn copy_row(to: Spot, from: Spot, next: u32) -> Operation {
 fn refill() -> Vec<Operation> {
     let (seed, i) = (123, 1);
     let each = counting(Root::Local(i), 0, 4, 0);
-    let next_seed = member(seed)
-        .then(Operator::Multiply, 17)
-        .then(Operator::Add, 59)
-        .then(Operator::Modulo, 1009);
     vec![
         Operation::Return { function: false },
         Operation::ForNext(each),
         set(row_part(local(i), 1), local(i), 1),
         set(row_part(local(i), 0), member(seed), 2),
-        set_member(seed, next_seed, 3),
+        set_member(seed, next_seed(seed), 3),
         start_for(each, 1, 60),
     ]
 }

@@ -1,8 +1,8 @@
 //! The program of `texts/sorting.cp`.
 
 use crate::assembly::{
-    alone, call, counting, local, member, negative, set, set_local, set_member, start_at,
-    start_for, term, unit, variable, zeros,
+    alone, call, counting, local, member, negative, next_seed, set, set_local, set_member,
+    start_at, start_for, term, unit, variable, zeros,
 };
 use crate::program::{
     Argument, Index, Operand, Operation, Operator, Program, Root, Spot, Target, Term,
@@ -27,15 +27,11 @@ fn number_at(root: Root, index: Term) -> Spot {
 fn refill() -> Vec<Operation> {
     let (seed, i) = (102, 0);
     let each = counting(Root::Local(i), 0, 3, 0);
-    let next_seed = member(seed)
-        .then(Operator::Multiply, 17)
-        .then(Operator::Add, 59)
-        .then(Operator::Modulo, 1009);
     vec![
         Operation::Return { function: false },
         Operation::ForNext(each),
         set(number_at(Root::Member(1), local(i)), member(seed), 1),
-        set_member(seed, next_seed, 2),
+        set_member(seed, next_seed(seed), 2),
         start_for(each, 1, 100),
     ]
 }
