@@ -34,9 +34,6 @@ INLINED = {'always': 'alwaysinline', 'never': 'noinline'}
 FLAGS = ('-march=x86-64', '-O3', '-fPIE', '-ffunction-sections', '-fdata-sections', *(word for flag in (
     '-no-trap-after-noreturn', '-trap-unreachable', '-no-x86-call-frame-opt', '-disable-machine-licm', '-disable-postra-machine-licm', '-sink-common-insts=false',
 ) for word in ('-mllvm', flag)))
-# The compiler drops `inline(always)` from functions that would grow very large: these have a body of their own in the module of the proved program, as
-# `define` lines of that module show.
-DROPPED = {('Term', 'fast_value')}
 
 
 def copy_kit(folder, module):
@@ -79,7 +76,7 @@ def bare_line(line, marks):
     """A line of a module without tests, with the mark of the function that it defines."""
     name = re.match(r'define internal .*@"(cp[^"<]*)', line)
     place = name and tuple(name[1].rstrip(':').split('::')[-2:])
-    mark = place not in DROPPED and marks.get(place)
+    mark = place and marks.get(place)
     if mark:
         line = line.replace(') #', f') {mark} #', 1)
     return line.replace(' sanitize_address', '').replace('"frame-pointer"="all"', '"frame-pointer"="none"')

@@ -165,7 +165,7 @@ impl Private {
         true
     }
 
-    // Goes to the next counter, if its variable is found.
+    // Goes to the next counter, if its variable is found. The last counter stays where it is.
     #[inline(always)]
     fn count_fast<W: Words>(&mut self, shared: &mut [i32], counting: &Counting) -> bool
         requires { IsAddressable shared.old }
@@ -196,7 +196,6 @@ impl Private {
         };
         self.set_word(shared, at, n);
         self.set_temp(temp, n);
-        self.set_temp(temp + 1, last);
         self.counter = counting.body;
         true
     }

@@ -12,8 +12,8 @@ use Rattle.cp_model_program.specs.Layout.{distance, natural}
 use Rattle.cp_model_program.specs.Terms as plain
 use Rattle.cp_model_machine.specs.Values.{View, apply, bind, place_of, root_place, value_of}
 use Rattle.cp_program.specs.declared.element.Element.{Element}
-use Rattle.cp_program.specs.declared.element.Step.{Step}
-use Rattle.cp_program.specs.declared.element.Step.TheVariants as step_case
+use Rattle.cp_program.specs.declared.element.Addend.{Addend}
+use Rattle.cp_program.specs.declared.element.Addend.TheVariants as addend_case
 use Rattle.cp_program.specs.declared.term.Root.{Root}
 use Rattle.cp_program.specs.declared.term.Root.TheVariants as root_case
 use Rattle.cp_program.specs.Shifts.{added_by, distance_to}
@@ -37,16 +37,16 @@ root_back v n (root_case.Member at) h = omega (arith, h)
 root_back v n (root_case.Through parameter plus) h = omega (arith, h)
 
 -- The value of an index that is an integer.
-stepped_value : (v : View) (e : plain.Term) (n m : ℤ) (s : Step) → value_of v e ≡ Ok n → m ≡ n +ℤ added_by s
-    → negsuc 32767 ≤ℤ m → m ≤ℤ pos 32767 → value_of v (view.stepped s e) ≡ Ok m
-stepped_value v e n m step_case.Same known is low high =
+with_addend_value : (v : View) (e : plain.Term) (n m : ℤ) (s : Addend) → value_of v e ≡ Ok n → m ≡ n +ℤ added_by s
+    → negsuc 32767 ≤ℤ m → m ≤ℤ pos 32767 → value_of v (view.with_addend s e) ≡ Ok m
+with_addend_value v e n m addend_case.Nothing known is low high =
     let same : n ≡ m = omega (arith, ints, is) in
     known ∙ ap (λ z. Ok z) same
-stepped_value v e n m (step_case.Add k) known is low high =
+with_addend_value v e n m (addend_case.Add k) known is low high =
     let inside = within_true (negsuc 32767) (pos 32767) m low high in
     ap (λ r. bind r (λ x. in_range (x +ℤ k))) known
     ∙ (ap in_range (sym is) ∙ (λ i. unless (inside i) fault.Overflow m))
-stepped_value v e n m (step_case.Subtract k) known is low high =
+with_addend_value v e n m (addend_case.Subtract k) known is low high =
     let inside = within_true (negsuc 32767) (pos 32767) m low high in
     let difference : n -ℤ k ≡ m = omega (arith, ints, is) in
     ap (λ r. bind r (λ x. in_range (x -ℤ k))) known
@@ -59,9 +59,9 @@ moved false root far = refl
 -- The place of an element is found from its index, and from where its part in the first element begins.
 pub element_reached : (v : View) (e : Element)
     → place_of v (view.element e)
-    ≡ bind (value_of v (view.stepped e.step (plain.Item (plain.Rooted (view.slot e.slot)))))
+    ≡ bind (value_of v (view.with_addend e.addend (plain.Item (plain.Rooted (view.slot e.slot)))))
     (λ m. bind (unless (within e.bounds.low e.bounds.high m) fault.Index (distance e.bounds.low m * e.size)) (λ k. Ok (root_place v (view.root e.first) + k)))
-element_reached v e = go (value_of v (view.stepped e.step (plain.Item (plain.Rooted (view.slot e.slot)))))
+element_reached v e = go (value_of v (view.with_addend e.addend (plain.Item (plain.Rooted (view.slot e.slot)))))
   where
     low : ℤ
     low = e.bounds.low
@@ -92,7 +92,7 @@ element_found v e n d known shifted last =
     let low = e.bounds.low in
     let high = e.bounds.high in
     let m = low +ℤ pos d in
-    let is : m ≡ n +ℤ added_by e.step = omega (arith, ints, e.shifted, shifted) in
+    let is : m ≡ n +ℤ added_by e.addend = omega (arith, ints, e.shifted, shifted) in
     let above : low ≤ℤ m = omega (arith, ints) in
     let below : m ≤ℤ high = omega (arith, ints, e.reach, last) in
     let least : negsuc 32767 ≤ℤ m = omega (arith, ints, e.exact.0, above) in
@@ -101,6 +101,6 @@ element_found v e n d known shifted last =
     let root = root_place v (view.root e.first) in
     element_reached v e
     ∙ (ap (λ r. bind r (λ z. bind (unless (within low high z) fault.Index (distance low z * e.size)) (λ k. Ok (root + k))))
-    (stepped_value v (plain.Item (plain.Rooted (view.slot e.slot))) n m e.step known is least greatest)
+    (with_addend_value v (plain.Item (plain.Rooted (view.slot e.slot))) n m e.addend known is least greatest)
     ∙ (ap (λ b. bind (unless b fault.Index (distance low m * e.size)) (λ k. Ok (root + k))) (within_true low high m above below)
     ∙ ap (λ k. Ok (root + natural k * e.size)) far))

@@ -87,6 +87,16 @@ with_member o at =
     ap view.application (sym (application_case.rolls-WithMember o at))
     ∙ fold-roll-Application PlainApplication plain.Term PlainIndex plain.PlaceExpression plain.Term application_layer operand_layer index_layer place_expression_layer term_layer _
 
+pub local_minus : (at : ℕ) → view.application (application_case.LocalMinus at) ≡ Before operator.Subtract (plain.Local at)
+local_minus at =
+    ap view.application (sym (application_case.rolls-LocalMinus at))
+    ∙ fold-roll-Application PlainApplication plain.Term PlainIndex plain.PlaceExpression plain.Term application_layer operand_layer index_layer place_expression_layer term_layer _
+
+pub member_minus : (at : ℕ) → view.application (application_case.MemberMinus at) ≡ Before operator.Subtract (plain.Member at)
+member_minus at =
+    ap view.application (sym (application_case.rolls-MemberMinus at))
+    ∙ fold-roll-Application PlainApplication plain.Term PlainIndex plain.PlaceExpression plain.Term application_layer operand_layer index_layer place_expression_layer term_layer _
+
 pub local_before : (o : Operator) (at : ℕ) → view.application (application_case.LocalBefore o at) ≡ Before (operator_of o) (plain.Local at)
 local_before o at =
     ap view.application (sym (application_case.rolls-LocalBefore o at))

@@ -8,8 +8,8 @@ use Rattle.cp_model_program.specs.Terms as plain
 use Rattle.cp_model_program.specs.Programs as code
 use Rattle.cp_program.specs.declared.element.Slot.{Slot}
 use Rattle.cp_program.specs.declared.element.Slot.TheVariants as slot_case
-use Rattle.cp_program.specs.declared.element.Step.{Step}
-use Rattle.cp_program.specs.declared.element.Step.TheVariants as step_case
+use Rattle.cp_program.specs.declared.element.Addend.{Addend}
+use Rattle.cp_program.specs.declared.element.Addend.TheVariants as addend_case
 use Rattle.cp_program.specs.declared.element.Element.{Element}
 use Rattle.cp_program.specs.declared.term.Root.{Root}
 use Rattle.cp_program.specs.declared.term.Root.TheVariants as root_case
@@ -67,16 +67,16 @@ abbrev pub slot : Slot → plain.Root
 slot (slot_case.Local at) = plain.Local at
 slot (slot_case.Member at) = plain.Member at
 
--- A term that a step changes.
-abbrev pub stepped : Step → plain.Term → plain.Term
-stepped step_case.Same e = e
-stepped (step_case.Add n) e = plain.Binary a.Add e (plain.Number n)
-stepped (step_case.Subtract n) e = plain.Binary a.Subtract e (plain.Number n)
+-- A term and what is added to it.
+abbrev pub with_addend : Addend → plain.Term → plain.Term
+with_addend addend_case.Nothing e = e
+with_addend (addend_case.Add n) e = plain.Binary a.Add e (plain.Number n)
+with_addend (addend_case.Subtract n) e = plain.Binary a.Subtract e (plain.Number n)
 
 abbrev pub element : Element → plain.PlaceExpression
 element e =
     plain.Element (plain.Rooted (root_before e.plus (root e.first))) e.bounds.low e.bounds.high e.size e.plus
-    (stepped e.step (plain.Item (plain.Rooted (slot e.slot))))
+    (with_addend e.addend (plain.Item (plain.Rooted (slot e.slot))))
 
 -- An operator with one of its operands; the other one is the chain before it. A word can be the left operand.
 pub data PlainApplication : Type 0 where
@@ -142,6 +142,8 @@ application_layer (Application-F.MultiplyMember at) = After a.Multiply (member a
 application_layer (Application-F.WithLocal o at) = After (operator_of o) (local at)
 application_layer (Application-F.WithMember o at) = After (operator_of o) (member at)
 application_layer (Application-F.WithMade o temp) = After (operator_of o) (plain.Made temp)
+application_layer (Application-F.LocalMinus at) = Before a.Subtract (plain.Local at)
+application_layer (Application-F.MemberMinus at) = Before a.Subtract (plain.Member at)
 application_layer (Application-F.LocalBefore o at) = Before (operator_of o) (plain.Local at)
 application_layer (Application-F.MemberBefore o at) = Before (operator_of o) (plain.Member at)
 application_layer (Application-F.WithOperand o x) = After (operator_of o) x

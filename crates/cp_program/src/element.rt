@@ -18,8 +18,8 @@ pub enum Slot {
 
 /// What is added to the word of an index, or subtracted from it.
 #[derive(Clone, Copy)]
-pub enum Step {
-    Same,
+pub enum Addend {
+    Nothing,
     Add(i32),
     Subtract(i32),
 }
@@ -33,7 +33,7 @@ pub struct Element {
     /// The distance of the part from where its element begins.
     pub(crate) plus: u32,
     pub(crate) slot: Slot,
-    pub(crate) step: Step,
+    pub(crate) addend: Addend,
     /// The bounds of the array.
     pub(crate) bounds: Bounds,
     /// The size of an element in words.
@@ -41,7 +41,7 @@ pub struct Element {
     pub(crate) shift: i32,
     /// The greatest distance, in elements.
     pub(crate) last: u32,
-    ghost shifted: { shift ≡ added_by step -ℤ bounds.low },
+    ghost shifted: { shift ≡ added_by addend -ℤ bounds.low },
     ghost reach: { pos last ≡ bounds.high -ℤ bounds.low },
     ghost exact: { (negsuc 32767 ≤ℤ bounds.low) × (bounds.high ≤ℤ pos 32767) },
     ghost within: { plus ≤ distance_to first },

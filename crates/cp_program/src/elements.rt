@@ -13,7 +13,7 @@ ghost use Rattle.cp_program.specs.View as view;
 
 use crate::arithmetic::apply;
 use crate::bounds::Bounds;
-use crate::element::{Element, Slot, Step};
+use crate::element::{Addend, Element, Slot};
 use crate::reach::{Memory, Reach, Words};
 use crate::term::{Application, Index, Operand, PlaceExpression, Root};
 use cp_model::ordinals::{FIRST_INTEGER, LAST_INTEGER};
@@ -53,40 +53,40 @@ impl Operand {
 }
 
 impl Application {
-    // The operator and its number as the step of an index.
-    fn step(&self) -> Option<Step>
+    // The operator and its number as what they add to the word of an index.
+    fn addend(&self) -> Option<Addend>
         ensures { (e : terms.Term) → IfSome result
-            (λ s. view.stepped s e ≡ view.applied_to e (view.application self.now)) }
+            (λ s. view.with_addend s e ≡ view.applied_to e (view.application self.now)) }
     {
         match self {
-            Application::AddNumber(n) => Some(Step::Add(*n)),
-            Application::SubtractNumber(n) => Some(Step::Subtract(*n)),
+            Application::AddNumber(n) => Some(Addend::Add(*n)),
+            Application::SubtractNumber(n) => Some(Addend::Subtract(*n)),
             _ => None,
         }
     }
 }
 
-// The operators of an index as its step.
-fn step_of(rest: &[Application]) -> Option<Step>
+// The operators of an index as what they add.
+fn addend_of(rest: &[Application]) -> Option<Addend>
     ensures { (e : terms.Term) → IfSome result
-        (λ s. view.stepped s e ≡ view.chain_of e (map view.application rest.now)) }
+        (λ s. view.with_addend s e ≡ view.chain_of e (map view.application rest.now)) }
 {
     match rest {
-        [] => Some(Step::Same),
-        [x] => x.step(),
+        [] => Some(Addend::Nothing),
+        [x] => x.addend(),
         _ => None,
     }
 }
 
-impl Step {
+impl Addend {
     // What is added to the word, if it fits in 32 bits.
     fn added(self) -> Option<i32>
         ensures { IfSome result (λ n. n ≡ added_by self) }
     {
         match self {
-            Step::Same => Some(0),
-            Step::Add(n) => Some(n),
-            Step::Subtract(n) => n.checked_neg(),
+            Addend::Nothing => Some(0),
+            Addend::Add(n) => Some(n),
+            Addend::Subtract(n) => n.checked_neg(),
         }
     }
 }
@@ -109,26 +109,26 @@ impl Element {
     fn new(
         root: Root,
         slot: Slot,
-        step: Step,
+        addend: Addend,
         bounds: Bounds,
         size: u32,
         plus: u32,
     ) -> Option<Element>
         ensures { IfSome result (λ e. view.element e ≡ terms.Element
             (terms.Rooted (view.root root)) bounds.low bounds.high size plus
-            (view.stepped step (terms.Item (terms.Rooted (view.slot slot))))) }
+            (view.with_addend addend (terms.Item (terms.Rooted (view.slot slot))))) }
     {
         if bounds.low < FIRST_INTEGER || LAST_INTEGER < bounds.high {
             return None;
         }
-        let shift = step.added()?.checked_sub(bounds.low)?;
+        let shift = addend.added()?.checked_sub(bounds.low)?;
         let last = bounds.span()?;
         let first = root.part(plus)?;
         Some(Element {
             first,
             plus,
             slot,
-            step,
+            addend,
             bounds,
             size,
             shift,
@@ -144,12 +144,12 @@ impl Index {
             ≡ terms.Element (terms.Rooted (view.root root)) i.low i.high i.size i.plus i.value) }
     {
         let slot = self.value.first.slot()?;
-        let step = step_of(&self.value.rest)?;
+        let addend = addend_of(&self.value.rest)?;
         let bounds = Bounds {
             low: self.low,
             high: self.high,
         };
-        Element::new(root, slot, step, bounds, self.size, self.plus)
+        Element::new(root, slot, addend, bounds, self.size, self.plus)
     }
 }
 
@@ -238,14 +238,14 @@ impl Element {
 
     // The value of the index.
     fn index(&self, reach: &Reach) -> Result<i32, Fault>
-        ensures { result ≡ values.value_of (view_of reach.now) (view.stepped self.now.step
+        ensures { result ≡ values.value_of (view_of reach.now) (view.with_addend self.now.addend
             (terms.Item (terms.Rooted (view.slot self.now.slot)))) }
     {
         let n = self.slot.value(reach);
-        match self.step {
-            Step::Same => Ok(n),
-            Step::Add(by) => apply(Operator::Add, n, by),
-            Step::Subtract(by) => apply(Operator::Subtract, n, by),
+        match self.addend {
+            Addend::Nothing => Ok(n),
+            Addend::Add(by) => apply(Operator::Add, n, by),
+            Addend::Subtract(by) => apply(Operator::Subtract, n, by),
         }
     }
 

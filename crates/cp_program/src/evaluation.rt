@@ -210,6 +210,10 @@ impl Application {
             Application::WithLocal(operator, at) => apply(*operator, left, reach.local_word(*at)),
             Application::WithMember(operator, at) => apply(*operator, left, reach.member_word(*at)),
             Application::WithMade(operator, temp) => apply(*operator, left, reach.temp(*temp)),
+            Application::LocalMinus(at) => apply(Operator::Subtract, reach.local_word(*at), left),
+            Application::MemberMinus(at) => {
+                apply(Operator::Subtract, reach.member_word(*at), left)
+            }
             Application::LocalBefore(operator, at) => apply(*operator, reach.local_word(*at), left),
             Application::MemberBefore(operator, at) => {
                 apply(*operator, reach.member_word(*at), left)

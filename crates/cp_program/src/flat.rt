@@ -16,6 +16,7 @@ ghost use Rattle.cp_program.specs.Reaches.{apply_operation, chain_value, element
 ghost use Rattle.cp_program.specs.View as view;
 
 use crate::arithmetic::truth;
+use crate::exact::{difference, sum};
 use crate::reach::{Memory, Words};
 use crate::term::{Application, Index, Operand, PlaceExpression, Root, Term};
 
@@ -158,7 +159,8 @@ impl Term {
     }
 
     /// Evaluates a term, if its operands are near.
-    #[inline(always)]
+    // The proving compiler drops `inline(always)` from a function that grows so large. LLVM inlines
+    // it by itself, since for each `W` only one function calls it.
     pub fn fast_value<W: Words>(&self, memory: &Memory, shared: &[i32]) -> Option<i32>
         ensures { (clock : ℕ) → IfSome result (λ n. values.value_of
             (view_with memory.now shared.now clock) (view.term self.now) ≡ Ok n) }
@@ -175,37 +177,15 @@ impl Term {
         fast_value_of_chain::<W>(first, &self.rest, memory, shared)
     }
 
-    // The value of a term whose operands are near, found by a call.
-    #[inline(never)]
-    fn fast_value_apart<W: Words>(&self, memory: &Memory, shared: &[i32]) -> Option<i32>
-        ensures { (clock : ℕ) → IfSome result (λ n. values.value_of
-            (view_with memory.now shared.now clock) (view.term self.now) ≡ Ok n) }
-    {
-        self.fast_value::<W>(memory, shared)
-    }
-
-    // The value of a term whose operands are near. Most such terms are flat and have one operator:
-    // these need no loop, and save no registers.
-    #[inline(never)]
-    fn value_apart<W: Words>(&self, memory: &Memory, shared: &[i32]) -> Option<i32>
-        ensures { (clock : ℕ) → IfSome result (λ n. values.value_of
-            (view_with memory.now shared.now clock) (view.term self.now) ≡ Ok n) }
-    {
-        match self.flat_value_here::<W>(memory, shared) {
-            Some(n) => Some(n),
-            None => self.fast_value_apart::<W>(memory, shared),
-        }
-    }
-
-    /// Evaluates a term, as `fast_value` does. It takes less room where it is inlined, and makes a
-    /// call if there are operators.
+    /// Evaluates a term that is a near operand, or whose operands are flat. It takes less room where
+    /// it is inlined than `fast_value`, and makes a call if there are operators.
     #[inline(always)]
     pub fn fast_argument<W: Words>(&self, memory: &Memory, shared: &[i32]) -> Option<i32>
         ensures { (clock : ℕ) → IfSome result (λ n. values.value_of
             (view_with memory.now shared.now clock) (view.term self.now) ≡ Ok n) }
     {
         if !self.rest.is_empty() {
-            return self.value_apart::<W>(memory, shared);
+            return self.flat_value::<W>(memory, shared);
         }
         self.first.fast_value::<W>(memory, shared)
     }
@@ -223,21 +203,29 @@ fn offset(i: &Index, n: i32) -> Option<usize>
     Some(distance * i.size as usize + i.plus as usize)
 }
 
+// The value of a chain whose first operand has the value `n`, if no operator follows, or one that adds
+// or subtracts a number.
+#[inline(always)]
+fn moved_by(n: i32, rest: &[Application]) -> Option<i32>
+    ensures { (v : values.View) → IfSome result
+        (λ m. chain_value v n (map view.application rest.now) ≡ Ok m) }
+{
+    match rest {
+        [] => Some(n),
+        [x] => x.moved(n),
+        _ => None,
+    }
+}
+
 impl Index {
-    // The value of an index that is a word.
+    // The value of an index that is a number or a word, or one of these and a number.
     #[inline(always)]
-    fn word<W: Words>(&self, memory: &Memory, shared: &[i32]) -> Option<i32>
+    fn near_value<W: Words>(&self, memory: &Memory, shared: &[i32]) -> Option<i32>
         ensures { (clock : ℕ) → IfSome result (λ n. values.value_of
             (view_with memory.now shared.now clock) (view.term self.now.value) ≡ Ok n) }
     {
-        if !self.value.rest.is_empty() {
-            return None;
-        }
-        match self.value.first {
-            Operand::Local(at) => memory.fast_local::<W>(shared, at),
-            Operand::Member(at) => memory.fast_member::<W>(shared, at),
-            _ => None,
-        }
+        let first = self.value.first.flat_value::<W>(memory, shared)?;
+        moved_by(first, &self.value.rest)
     }
 
     // The place to which the index leads from another, if its value is `n`.
@@ -250,13 +238,14 @@ impl Index {
         from.checked_add(far)
     }
 
-    // The place to which the index leads from another, if it is a word.
+    // The place to which the index leads from another, if it is a number or a word, or one of these
+    // and a number.
     #[inline(always)]
-    fn word_place<W: Words>(&self, from: usize, memory: &Memory, shared: &[i32]) -> Option<usize>
+    fn near_place<W: Words>(&self, from: usize, memory: &Memory, shared: &[i32]) -> Option<usize>
         ensures { (clock : ℕ) → IfSome result (λ at. elements_place
             (view_with memory.now shared.now clock) from (view.index self.now ∷ []) ≡ Ok at) }
     {
-        let n = self.word::<W>(memory, shared)?;
+        let n = self.near_value::<W>(memory, shared)?;
         self.place_at(from, n)
     }
 
@@ -290,7 +279,7 @@ fn flat_place_of_element<W: Words>(
 }
 
 // The place to which the indices lead, starting from the place `from`, if they are flat. Most
-// indices are words, which need no call.
+// indices are words, or a word and a number, which need no call.
 #[inline(always)]
 fn fast_place_of_element<W: Words>(
     from: usize,
@@ -304,7 +293,7 @@ fn fast_place_of_element<W: Words>(
     let mut at = from;
     let mut left = indices;
     while let Some((i, after)) = left.split_first() {
-        let Some(next) = i.word_place::<W>(at, memory, shared) else {
+        let Some(next) = i.near_place::<W>(at, memory, shared) else {
             return flat_place_of_element::<W>(at, left, memory, shared);
         };
         at = next;

@@ -2,7 +2,7 @@
 //! step needs neither allocation nor hashing.
 //!
 //! - `term`, `divisor`: expressions, which are chains of operands, and place expressions, which are
-//!   places of variables.
+//!   places of variables. `applications`: the forms of an operator with an operand.
 //! - `element`, `elements`: elements by one index that is a word, or a word and a number.
 //! - `operation`: operations, each of which is one step and holds the places to which it leads.
 //! - `bounds`: the numbers that a variable may hold.
@@ -19,6 +19,7 @@
 //! of steps are about.
 #![tactic(auto)]
 
+mod applications;
 mod arithmetic;
 pub mod arm;
 pub mod arms;

@@ -33,19 +33,20 @@ impl Operands {
     }
 }
 
-// The difference of `left` and `right`, if the operator is that of differences.
-#[inline(always)]
-fn difference_of(operator: Operator, left: i32, right: i32) -> Option<i32>
-    ensures { IfSome result
-        (λ n. values.apply (operator_of operator) left right ≡ Ok n) }
-{
-    match operator {
-        Operator::Subtract => difference(left, right),
-        _ => None,
-    }
-}
-
 impl Application {
+    // The value of the sum or difference of `left`, the value so far, and a number.
+    #[inline(always)]
+    pub(crate) fn moved(&self, left: i32) -> Option<i32>
+        ensures { (v : values.View) → IfSome result
+            (λ n. apply_operation v left (view.application self.now) ≡ Ok n) }
+    {
+        match self {
+            Application::AddNumber(n) => sum(left, *n),
+            Application::SubtractNumber(n) => difference(left, *n),
+            _ => None,
+        }
+    }
+
     // The value of a sum, difference, product, quotient or remainder of `left`, the value so far,
     // and a flat operand.
     #[inline(always)]
@@ -75,11 +76,11 @@ impl Application {
             }
             Application::MultiplyLocal(at) => product(left, memory.fast_local::<W>(shared, *at)?),
             Application::MultiplyMember(at) => product(left, memory.fast_member::<W>(shared, *at)?),
-            Application::LocalBefore(operator, at) => {
-                difference_of(*operator, memory.fast_local::<W>(shared, *at)?, left)
+            Application::LocalMinus(at) => {
+                difference(memory.fast_local::<W>(shared, *at)?, left)
             }
-            Application::MemberBefore(operator, at) => {
-                difference_of(*operator, memory.fast_member::<W>(shared, *at)?, left)
+            Application::MemberMinus(at) => {
+                difference(memory.fast_member::<W>(shared, *at)?, left)
             }
             _ => None,
         }

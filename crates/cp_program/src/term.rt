@@ -64,7 +64,7 @@ pub enum Operand {
     Realtime,
 }
 
-/// An operator with one of its operands, which is the right one but for the last two cases; the
+/// An operator with one of its operands, which is the right one but for the last four cases; the
 /// other operand is the chain before it. The commonest have cases of their own, so that one match
 /// finds operator and operand.
 #[cycle(terms)]
@@ -89,6 +89,10 @@ pub enum Application {
     /// The value of a call as the right operand.
     WithMade(Operator, u32),
     WithOperand(Operator, Operand),
+    /// A word of the activation minus the chain so far.
+    LocalMinus(u32),
+    /// A word of the component minus the chain so far.
+    MemberMinus(u32),
     /// A word of the activation as the left operand, and the chain so far as the right one.
     LocalBefore(Operator, u32),
     /// A word of the component as the left operand, and the chain so far as the right one.
@@ -209,57 +213,6 @@ impl PlaceExpression {
     }
 }
 
-impl Application {
-    fn of_number(operator: Operator, number: i32) -> Application
-        ensures { view.application result ≡ view.After (operator_of operator)
-            (plain.Number number) }
-    {
-        match (operator, Divisor::new(number)) {
-            (Operator::Add, _) => Application::AddNumber(number),
-            (Operator::Subtract, _) => Application::SubtractNumber(number),
-            (Operator::Multiply, _) => Application::MultiplyNumber(number),
-            (Operator::Divide, Some(divisor)) => Application::DivideNumber(divisor),
-            (Operator::Modulo, Some(divisor)) => Application::ModuloNumber(divisor),
-            _ => Application::WithNumber(operator, number),
-        }
-    }
-
-    fn of_local(operator: Operator, at: u32) -> Application
-        ensures { view.application result ≡ view.After (operator_of operator) (view.local at) }
-    {
-        match operator {
-            Operator::Add => Application::AddLocal(at),
-            Operator::Subtract => Application::SubtractLocal(at),
-            Operator::Multiply => Application::MultiplyLocal(at),
-            _ => Application::WithLocal(operator, at),
-        }
-    }
-
-    fn of_member(operator: Operator, at: u32) -> Application
-        ensures { view.application result ≡ view.After (operator_of operator) (view.member at) }
-    {
-        match operator {
-            Operator::Add => Application::AddMember(at),
-            Operator::Subtract => Application::SubtractMember(at),
-            Operator::Multiply => Application::MultiplyMember(at),
-            _ => Application::WithMember(operator, at),
-        }
-    }
-
-    fn new(operator: Operator, operand: Operand) -> Application
-        ensures { view.application result ≡ view.After (operator_of operator)
-            (view.operand operand) }
-    {
-        match operand {
-            Operand::Number(number) => Application::of_number(operator, number),
-            Operand::Local(at) => Application::of_local(operator, at),
-            Operand::Member(at) => Application::of_member(operator, at),
-            Operand::Made(temp) => Application::WithMade(operator, temp),
-            operand => Application::WithOperand(operator, operand),
-        }
-    }
-}
-
 impl Term {
     // A term that consists of one operand.
     fn lone(alloc: Global, first: Operand) -> Term
@@ -369,8 +322,8 @@ impl Term {
             return None;
         }
         match self.first {
-            Operand::Local(at) => Some(Application::LocalBefore(operator, at)),
-            Operand::Member(at) => Some(Application::MemberBefore(operator, at)),
+            Operand::Local(at) => Some(Application::after_local(operator, at)),
+            Operand::Member(at) => Some(Application::after_member(operator, at)),
             _ => None,
         }
     }

@@ -7,8 +7,8 @@ use Rattle.cp_law_cores.specs.Clocks.{are_timeless, argument_is_timeless, argume
 use Rattle.cp_law_cores.proofs.Parts.{none_is}
 use Rattle.cp_model.proofs.Options.{same_some}
 use Rattle.cp_program.specs.declared.element.Element.{Element}
-use Rattle.cp_program.specs.declared.element.Step.{Step}
-use Rattle.cp_program.specs.declared.element.Step.TheVariants as step_case
+use Rattle.cp_program.specs.declared.element.Addend.{Addend}
+use Rattle.cp_program.specs.declared.element.Addend.TheVariants as addend_case
 use Rattle.cp_program.specs.View as view
 use Rattle.cp_program.specs.declared.term.Application.TheFolds.{fold-roll-Operand}
 use Rattle.cp_program.specs.declared.term.Operand.TheVariants as operand_case
@@ -75,13 +75,13 @@ elements_pass s (i ∷ is) h all =
     elements_pass (plain.Element s i.low i.high i.size i.plus i.value) is (both (place_expression_is_timeless s) (term_is_timeless i.value) h split.0) split.1
 
 -- An element reads no clock.
-stepped_passes : (s : Step) (e : plain.Term) → term_is_timeless e ≡ true → term_is_timeless (view.stepped s e) ≡ true
-stepped_passes step_case.Same e h = h
-stepped_passes (step_case.Add n) e h = both (term_is_timeless e) true h refl
-stepped_passes (step_case.Subtract n) e h = both (term_is_timeless e) true h refl
+with_addend_passes : (s : Addend) (e : plain.Term) → term_is_timeless e ≡ true → term_is_timeless (view.with_addend s e) ≡ true
+with_addend_passes addend_case.Nothing e h = h
+with_addend_passes (addend_case.Add n) e h = both (term_is_timeless e) true h refl
+with_addend_passes (addend_case.Subtract n) e h = both (term_is_timeless e) true h refl
 
 pub element_passes : (e : Element) → place_expression_is_timeless (view.element e) ≡ true
-element_passes e = stepped_passes e.step (plain.Item (plain.Rooted (view.slot e.slot))) refl
+element_passes e = with_addend_passes e.addend (plain.Item (plain.Rooted (view.slot e.slot))) refl
 
 pub element_operand : (e : Box Element Global) → view.operand (operand_case.Element e) ≡ plain.Item (view.element e.value)
 element_operand e =

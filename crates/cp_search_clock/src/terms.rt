@@ -50,6 +50,8 @@ fn application_is_timeless(x: &Application) -> bool
         Application::WithLocal(_, _) => true,
         Application::WithMember(_, _) => true,
         Application::WithMade(_, _) => true,
+        Application::LocalMinus(_) => true,
+        Application::MemberMinus(_) => true,
         Application::LocalBefore(_, _) => true,
         Application::MemberBefore(_, _) => true,
     }

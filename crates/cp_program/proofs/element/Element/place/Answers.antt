@@ -16,7 +16,7 @@ returns-in_err-n c =
     let e = c.args.self.now in
     let b = e.bounds in
     let given : c.from_residual.result ≡ Err c.in_err-n.field-0.0 = search rules in
-    let valued : value_of v (view.stepped e.step (terms.Item (terms.Rooted (view.slot e.slot)))) ≡ Err c.in_err-n.field-0.0 =
+    let valued : value_of v (view.with_addend e.addend (terms.Item (terms.Rooted (view.slot e.slot)))) ≡ Err c.in_err-n.field-0.0 =
     sym c.index.ensures ∙ c.in_err-n.was in
     given
     ∙ sym (ap capped_result (element_reached v e
@@ -29,7 +29,7 @@ returns-in_err-far c =
     let b = e.bounds in
     let n = c.in_ok-n.n in
     let given : c.from_residual-in_err-far.result ≡ Err c.in_err-far.field-0.0 = search rules in
-    let valued : value_of v (view.stepped e.step (terms.Item (terms.Rooted (view.slot e.slot)))) ≡ Ok n =
+    let valued : value_of v (view.with_addend e.addend (terms.Item (terms.Rooted (view.slot e.slot)))) ≡ Ok n =
     sym c.index.ensures ∙ c.in_ok-n.was in
     let same : to_z w32 (of_z w32 n) ≡ n = search rules in
     let apart : unless (within b.low b.high n) fault.Index (distance b.low n * e.size) ≡ Err c.in_err-far.field-0.0 =
@@ -47,7 +47,7 @@ returns c =
     let n = c.in_ok-n.n in
     let far = c.in_ok-far.far in
     let from = c.root_place-from.result in
-    let valued : value_of v (view.stepped e.step (terms.Item (terms.Rooted (view.slot e.slot)))) ≡ Ok n =
+    let valued : value_of v (view.with_addend e.addend (terms.Item (terms.Rooted (view.slot e.slot)))) ≡ Ok n =
     sym c.index.ensures ∙ c.in_ok-n.was in
     let same : to_z w32 (of_z w32 n) ≡ n = search rules in
     let apart : unless (within b.low b.high n) fault.Index (distance b.low n * e.size) ≡ Ok far =

@@ -1,10 +1,9 @@
 use Rattle.std.proofs.Common.{rules, ◌≡◌, ap, sym, ◌∙◌}
 use Rattle.cp_model.specs.Abstract as operator
-use Rattle.cp_model.specs.Erase.{operator_of}
 use Rattle.cp_model_program.specs.Terms as plain
 use Rattle.cp_program.specs.Reaches.{view_with}
 use Rattle.cp_program.specs.View as view
-use Rattle.cp_program.proofs.Found.{add_local, add_member, after_known, before_known, found, kept, local_before, member_before, multiply_local, multiply_member, subtract_local, subtract_member, reported}
+use Rattle.cp_program.proofs.Found.{add_local, add_member, after_known, before_known, found, kept, local_minus, member_minus, multiply_local, multiply_member, subtract_local, subtract_member, reported}
 use Rattle.cp_program.proofs.term.Application.arithmetic_value_after.Goals as goal
 
 pub returns-in_ok-fast_local-in-AddLocal : goal.returns-in_ok-fast_local-in-AddLocal
@@ -67,24 +66,22 @@ returns-in_ok-fast_member-in-MultiplyMember g c clock =
     let whole = ap view.application c.in-MultiplyMember.is ∙ multiply_member c.in-MultiplyMember.at in
     found _ _ _ (sym (after_known v c.args.left n operator.Multiply (view.member c.in-MultiplyMember.at) _ whole known left right)) c.product-in-MultiplyMember.ensures
 
-pub returns-in_ok-fast_local-in-LocalBefore : goal.returns-in_ok-fast_local-in-LocalBefore
-returns-in_ok-fast_local-in-LocalBefore g c clock =
+pub returns-in_ok-fast_local-in-LocalMinus : goal.returns-in_ok-fast_local-in-LocalMinus
+returns-in_ok-fast_local-in-LocalMinus g c clock =
     let v = view_with c.args.memory.now c.args.shared.now clock in
-    let n = c.in_ok-fast_local-in-LocalBefore.field-0 in
-    let op = c.in-LocalBefore.operator in
-    let known = reported _ n _ c.in_ok-fast_local-in-LocalBefore.was (c.fast_local-in-LocalBefore.ensures clock) in
+    let n = c.in_ok-fast_local-in-LocalMinus.field-0 in
+    let known = reported _ n _ c.in_ok-fast_local-in-LocalMinus.was (c.fast_local-in-LocalMinus.ensures clock) in
     let left : kept c.args.left ≡ c.args.left = search rules in
     let right : kept n ≡ n = search rules in
-    let whole = ap view.application c.in-LocalBefore.is ∙ local_before op c.in-LocalBefore.at in
-    found _ _ _ (sym (before_known v c.args.left n (operator_of op) (plain.Local c.in-LocalBefore.at) _ whole known left right)) c.difference_of.ensures
+    let whole = ap view.application c.in-LocalMinus.is ∙ local_minus c.in-LocalMinus.at in
+    found _ _ _ (sym (before_known v c.args.left n operator.Subtract (plain.Local c.in-LocalMinus.at) _ whole known left right)) c.difference-in-LocalMinus.ensures
 
-pub returns-in_ok-fast_member-in-MemberBefore : goal.returns-in_ok-fast_member-in-MemberBefore
-returns-in_ok-fast_member-in-MemberBefore g c clock =
+pub returns-in_ok-fast_member-in-MemberMinus : goal.returns-in_ok-fast_member-in-MemberMinus
+returns-in_ok-fast_member-in-MemberMinus g c clock =
     let v = view_with c.args.memory.now c.args.shared.now clock in
-    let n = c.in_ok-fast_member-in-MemberBefore.field-0 in
-    let op = c.in-MemberBefore.operator in
-    let known = reported _ n _ c.in_ok-fast_member-in-MemberBefore.was (c.fast_member-in-MemberBefore.ensures clock) in
+    let n = c.in_ok-fast_member-in-MemberMinus.field-0 in
+    let known = reported _ n _ c.in_ok-fast_member-in-MemberMinus.was (c.fast_member-in-MemberMinus.ensures clock) in
     let left : kept c.args.left ≡ c.args.left = search rules in
     let right : kept n ≡ n = search rules in
-    let whole = ap view.application c.in-MemberBefore.is ∙ member_before op c.in-MemberBefore.at in
-    found _ _ _ (sym (before_known v c.args.left n (operator_of op) (plain.Member c.in-MemberBefore.at) _ whole known left right)) c.difference_of-in-MemberBefore.ensures
+    let whole = ap view.application c.in-MemberMinus.is ∙ member_minus c.in-MemberMinus.at in
+    found _ _ _ (sym (before_known v c.args.left n operator.Subtract (plain.Member c.in-MemberMinus.at) _ whole known left right)) c.difference-in-MemberMinus.ensures

@@ -12,8 +12,8 @@ returns c =
     let t = x.value in
     let root = terms.Rooted (view.root c.args.root) in
     let word = terms.Item (terms.Rooted (view.slot c.in_ok-slot.slot)) in
-    let valued : view.stepped c.in_ok-step.step word ≡ view.term t =
-    c.in_ok-step.ensures word
+    let valued : view.with_addend c.in_ok-addend.addend word ≡ view.term t =
+    c.in_ok-addend.ensures word
     ∙ (ap (λ xs. chain_of word (map view.application xs)) c.deref.ensures.value
     ∙ (ap (λ y. chain_of y (map view.application (out-Term t).rest.items)) (sym c.in_ok-slot.ensures) ∙ sym (term_is t))) in
     let placed : PlainIndex → terms.PlaceExpression = λ i. terms.Element root i.low i.high i.size i.plus i.value in
