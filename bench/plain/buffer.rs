@@ -1,136 +1,37 @@
 //! The program of `texts/buffer.cp`.
 
 use crate::assembly::{after_initial, call, member, set, set_member, term, unit, value, variable};
-use crate::program::{
-    Argument, Index, Operand, Operation, Operator, Program, Root, Spot, Start, Target, Term,
-};
+use crate::program::{Argument, Operand, Operation, Operator, Program, Root, Start, Target};
+use crate::ring::{count_up, sum_modulo, Ring};
 
-// The words of the buffer.
-const ITEMS: u32 = 0;
-const HEAD: u32 = 4;
-const LENGTH: u32 = 5;
-const SENDERS: u32 = 6;
-const RECEIVERS: u32 = 14;
-const FIRST_SENDER: u32 = 22;
-const FIRST_RECEIVER: u32 = 23;
-const SENDING: u32 = 24;
-const RECEIVING: u32 = 25;
-const NEXT: u32 = 26;
-const PUT_ITEMS: u32 = 27;
-const TAKEN_ITEMS: u32 = 28;
-const SENDER_WAITS: u32 = 29;
-const RECEIVER_WAITS: u32 = 30;
-
-/// `array[index]`, where `array` has so many elements from 0.
-fn element(array: u32, count: i32, index: Term) -> Spot {
-    let index = Index {
-        low: 0,
-        high: count - 1,
-        size: 1,
-        plus: 0,
-        value: index,
-    };
-    Spot {
-        root: Root::Member(array),
-        indices: vec![index],
-    }
-}
-
-/// `n := (n + 1) mod many`
-fn count_up(n: u32, many: i32, next: u32) -> Operation {
-    let value = member(n)
-        .then(Operator::Add, 1)
-        .then(Operator::Modulo, many);
-    set_member(n, value, next)
-}
-
-/// `(a + b) mod many`
-fn sum_modulo(a: u32, b: u32, many: i32) -> Term {
-    let sum = member(a).then(Operator::Add, Operand::Member(b));
-    sum.then(Operator::Modulo, many)
-}
-
-/// `delay(queues[(first + waiting - 1) mod each])`
-fn delay(queues: u32, first: u32, waiting: u32, next: u32) -> Operation {
-    let last = member(first).then(Operator::Add, Operand::Member(waiting));
-    let index = last.then(Operator::Subtract, 1).then(Operator::Modulo, 8);
-    Operation::Delay {
-        queue: element(queues, 8, index),
-        next,
-    }
-}
-
-/// The end of both routines, from place `from` to `from + 5`: `if waiting > 0` and what follows it.
-fn resume(queues: u32, first: u32, waiting: u32, from: u32) -> Vec<Operation> {
-    let after_next = member(NEXT)
-        .then(Operator::Add, 1)
-        .then(Operator::Modulo, 8);
-    vec![
-        Operation::Return { function: false },
-        Operation::Continue {
-            queue: element(queues, 8, member(NEXT)),
-        },
-        set_member(
-            waiting,
-            member(waiting).then(Operator::Subtract, 1),
-            from + 1,
-        ),
-        set_member(first, after_next, from + 2),
-        set_member(NEXT, member(first), from + 3),
-        Operation::Test {
-            value: member(waiting).then(Operator::Greater, 0),
-            yes: from + 4,
-            no: from,
-        },
-    ]
-}
+const RING: Ring = Ring { size: 1, head: 4 };
 
 /// `put`, from place 0 to 12.
 fn put() -> Vec<Operation> {
-    let item = 0;
-    let mut operations = resume(RECEIVERS, FIRST_RECEIVER, RECEIVING, 0);
+    let (item, length, counts) = (0, RING.length(), RING.counts());
+    let to = RING.slot(sum_modulo(RING.head, length, 4));
+    let mut operations = RING.resume(RING.receivers(), 0);
     operations.extend([
-        count_up(PUT_ITEMS, 30000, 5),
-        set_member(LENGTH, member(LENGTH).then(Operator::Add, 1), 6),
-        set(
-            element(ITEMS, 4, sum_modulo(HEAD, LENGTH, 4)),
-            term(Operand::Local(item)),
-            7,
-        ),
-        delay(SENDERS, FIRST_SENDER, SENDING, 8),
-        set_member(SENDING, member(SENDING).then(Operator::Add, 1), 9),
-        count_up(SENDER_WAITS, 30000, 10),
-        Operation::Test {
-            value: member(LENGTH).then(Operator::Equal, 4),
-            yes: 11,
-            no: 8,
-        },
+        count_up(counts, 30000, 5),
+        set_member(length, member(length).then(Operator::Add, 1), 6),
+        set(to, term(Operand::Local(item)), 7),
     ]);
+    operations.extend(RING.wait(RING.senders(), 4, counts + 2, 9));
     operations
 }
 
 /// `take`, from place 13 to 26.
 fn take() -> Vec<Operation> {
-    let item = 0;
-    let mut operations = resume(SENDERS, FIRST_SENDER, SENDING, 13);
+    let (item, length, counts) = (0, RING.length(), RING.counts());
+    let from = term(RING.slot(member(RING.head)));
+    let mut operations = RING.resume(RING.senders(), 13);
     operations.extend([
-        count_up(TAKEN_ITEMS, 30000, 18),
-        set_member(LENGTH, member(LENGTH).then(Operator::Subtract, 1), 19),
-        count_up(HEAD, 4, 20),
-        set(
-            variable(Root::Through(item)),
-            term(element(ITEMS, 4, member(HEAD))),
-            21,
-        ),
-        delay(RECEIVERS, FIRST_RECEIVER, RECEIVING, 22),
-        set_member(RECEIVING, member(RECEIVING).then(Operator::Add, 1), 23),
-        count_up(RECEIVER_WAITS, 30000, 24),
-        Operation::Test {
-            value: member(LENGTH).then(Operator::Equal, 0),
-            yes: 25,
-            no: 22,
-        },
+        count_up(counts + 1, 30000, 18),
+        set_member(length, member(length).then(Operator::Subtract, 1), 19),
+        count_up(RING.head, 4, 20),
+        set(variable(Root::Through(item)), from, 21),
     ]);
+    operations.extend(RING.wait(RING.receivers(), 0, counts + 3, 23));
     operations
 }
 

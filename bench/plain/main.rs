@@ -7,19 +7,23 @@
 //! - `program`: terms and spots, operations, and units of code.
 //! - `memory`, `evaluation`: words, the values of terms and the places of spots.
 //! - `process`: steps and private turns. `kernel`: gates, kernel turns and rounds.
-//! - `assembly`, `sorting`, `records`, `nested`, `calls`, `classes`, `buffer`: the programs.
+//! - `assembly`, `ring`: pieces of programs. `sorting`, `records`, `matrices`, `nested`, `calls`, `classes`, `buffer`, `buffers`:
+//!   the programs.
 
 mod assembly;
 mod buffer;
+mod buffers;
 mod calls;
 mod classes;
 mod evaluation;
 mod kernel;
+mod matrices;
 mod memory;
 mod nested;
 mod process;
 mod program;
 mod records;
+mod ring;
 mod sorting;
 
 use kernel::Machine;
@@ -50,16 +54,20 @@ fn run(program: &Program, rounds: u32) -> ExitCode {
 fn main() -> ExitCode {
     let words: Vec<String> = env::args().skip(1).collect();
     let [text, rounds] = words.as_slice() else {
-        eprintln!("usage: plain sorting|records|nested|calls|classes|buffer ROUNDS");
+        eprintln!(
+            "usage: plain sorting|records|matrices|nested|calls|classes|buffer|buffers ROUNDS"
+        );
         return ExitCode::FAILURE;
     };
     let program = match text.as_str() {
         "sorting" => sorting::program(),
         "records" => records::program(),
+        "matrices" => matrices::program(),
         "nested" => nested::program(),
         "calls" => calls::program(),
         "classes" => classes::program(),
         "buffer" => buffer::program(),
+        "buffers" => buffers::program(),
         _ => return ExitCode::FAILURE,
     };
     run(&program, rounds.parse().unwrap_or(1))

@@ -125,9 +125,19 @@ impl Memory {
         }
     }
 
-    pub fn copy_words(&mut self, to: usize, from: usize, count: usize) {
+    /// Copies words, of the process itself in one piece and others one by one. The two blocks don't overlap.
+    pub fn copy_words<S: Shared>(&mut self, shared: &mut S, to: usize, from: usize, count: usize) {
         if from.max(to) + count <= self.words.len() {
             self.words.copy_within(from..from + count, to);
+            return;
+        }
+        for k in 0..count {
+            let reach = Reach {
+                memory: self,
+                shared: &*shared,
+            };
+            let n = reach.word(from + k);
+            self.set_word(shared, to + k, n);
         }
     }
 

@@ -182,7 +182,7 @@ impl Process {
             } => {
                 let at = to.place(reach)?;
                 let from = from.place(reach)?;
-                self.memory.copy_words(at, from, *size as usize);
+                self.memory.copy_words(shared, at, from, *size as usize);
                 self.place = *next;
             }
             Operation::Test { value, yes, no } => {
@@ -373,7 +373,7 @@ impl Process {
                 Argument::Copy { at, size, from } => {
                     let from = from.place(self.reach(shared))?;
                     self.memory
-                        .copy_words(to + *at as usize, from, *size as usize);
+                        .copy_words(shared, to + *at as usize, from, *size as usize);
                 }
                 Argument::Reference { at, to: spot } => {
                     let place = spot.place(self.reach(shared))?;
