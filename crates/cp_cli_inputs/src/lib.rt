@@ -1,9 +1,7 @@
 //! Components by name: which names are unknown, the numbers of processes, and the input of each
-//! process from a reader of its own, joined into one.
+//! process from a reader of its own.
 //!
 //! - `named`: the processes, monitors and variables of a text by name, in any letter case.
-//!
-//! cp_frontend joins the inputs.
 #![tactic(auto)]
 
 pub mod named;

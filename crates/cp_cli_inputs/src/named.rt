@@ -1,5 +1,5 @@
 //! The processes, monitors and variables of a text by name: whether there are such, the numbers of
-//! processes, and their joined input.
+//! processes, and what they read.
 
 ghost use Rattle.std.specs.Prelude.{◌≡◌};
 ghost use Rattle.cp_frontend.specs.declared.refusal.Refusal.TheVariants as refusal;
@@ -8,7 +8,7 @@ ghost use Rattle.cp_cli_inputs.specs.declared.named.InputError.TheVariants as er
 use cp_check::checking::tables_of;
 use cp_compile_symbols::{Tables, small_number};
 use cp_frontend::cutting::MAX_INPUT_BYTES;
-use cp_frontend::joining::{join, misplaced};
+use cp_frontend::inputs::{ProcessInput, ProcessInputs, misplaced};
 use cp_frontend::reading::{ReadError, read_text};
 use cp_frontend::refusal::Refusal;
 use cp_frontend::sources::AcceptedText;
@@ -99,17 +99,17 @@ impl<'a, R: Read> InputOf<'a, R> {
     }
 }
 
-// Reads the inputs into the places of their processes. They have at most as many bytes as one input
-// may have.
-fn read_inputs<'a, R: Read>(
+// Reads the inputs. They have at most as many bytes as one input may have, where each process of the
+// text takes a byte.
+fn read_all<'a, R: Read + Drop>(
     alloc: Global,
     component_table: &ComponentTable<'_>,
-    named: &mut [InputOf<'a, R>],
-    inputs: &mut [Vec<u8>],
-) -> Result<(), InputError<'a>> {
-    let mut length: usize = inputs.len();
-    for input in named {
-        let Some(number) = component_table.process(input.process.as_bytes())? else {
+    named: Vec<InputOf<'a, R>>,
+) -> Result<Vec<ProcessInput>, InputError<'a>> {
+    let mut length = component_table.processes.len().saturating_add(1);
+    let mut inputs = Vec::new(alloc);
+    for mut input in named {
+        let Some(process) = component_table.process(input.process.as_bytes())? else {
             return Err(InputError::NoProcess {
                 process: input.process,
             });
@@ -119,11 +119,9 @@ fn read_inputs<'a, R: Read>(
         if MAX_INPUT_BYTES < length {
             return Err(InputError::Refused(Refusal::InputSize));
         }
-        if let Some(place) = inputs.get_mut((number as usize).saturating_sub(1)) {
-            *place = bytes;
-        }
+        inputs.push(ProcessInput { process, bytes })?;
     }
-    Ok(())
+    Ok(inputs)
 }
 
 // The numbers of all processes.
@@ -223,26 +221,20 @@ pub fn unknown_variable<'a>(
     Ok(None)
 }
 
-/// Reads the inputs of the processes that are named, in any letter case, and returns the joined
-/// input of the text. Process 1 is named `initial`, unless another process has that name. A process
-/// that isn't named has no input.
+/// Reads the inputs of the processes that are named, in any letter case. Process 1 is named
+/// `initial`, unless another process has that name. A process that isn't named has no input. The
+/// last input of a process is the one that it reads.
 ///
 /// # Errors
 ///
 /// In the order of the names, `NoProcess`, `Unread` and `Byte`, and `Refused` with I4 once the
-/// inputs and the bytes 28 behind them have more than 1,048,576 bytes. Also M. A reader is read to
+/// inputs, and a byte for each process, have more than 1,048,576 bytes. Also M. A reader is read to
 /// its end or through byte 1,048,577, and no further.
-pub fn joined_input<'a, R: Read>(
+pub fn read_inputs<'a, R: Read + Drop>(
     alloc: Global,
     text: &AcceptedText,
-    named: &mut [InputOf<'a, R>],
-) -> Result<Vec<u8>, InputError<'a>> {
+    named: Vec<InputOf<'a, R>>,
+) -> Result<ProcessInputs, InputError<'a>> {
     let component_table = component_table_of(alloc, text)?;
-    let mut inputs: Vec<Vec<u8>> = Vec::new(alloc);
-    inputs.push(Vec::new(alloc))?;
-    for _process in &component_table.processes {
-        inputs.push(Vec::new(alloc))?;
-    }
-    read_inputs(alloc, &component_table, named, &mut inputs)?;
-    Ok(join(alloc, &inputs)?)
+    Ok(ProcessInputs::Named(read_all(alloc, &component_table, named)?))
 }

@@ -3,7 +3,8 @@
 use crate::failure::Failure;
 use crate::opening::{Source, open, open_named};
 use cp_cli::command::{Inputs, NamedInput};
-use cp_cli_inputs::named::{InputOf, joined_input};
+use cp_cli_inputs::named::{InputOf, read_inputs};
+use cp_frontend::inputs::ProcessInputs;
 use cp_frontend::sources::{AcceptedText, read_accepted, read_input};
 use std::alloc::Global;
 use std::fs::Files;
@@ -53,15 +54,15 @@ pub fn open_inputs<'a, H: Files + Input>(
 }
 
 impl<'a, F: Read + Drop, I: Read + Drop> Opened<'a, F, I> {
-    /// Reads one input for all processes of a text.
+    /// Reads the inputs of the processes of a text.
     ///
     /// # Errors
     ///
-    /// I1, I4 or I3 if there is one input, and the errors of `joined_input` if there are several.
-    pub fn read(self, alloc: Global, text: &AcceptedText) -> Result<Vec<u8>, Failure<'a>> {
+    /// I1, I4 or I3 if there is one input, and the errors of `read_inputs` if there are several.
+    pub fn read(self, alloc: Global, text: &AcceptedText) -> Result<ProcessInputs, Failure<'a>> {
         match self {
-            Opened::One(mut source) => Ok(read_input(alloc, &mut source)?),
-            Opened::Named(mut named) => Ok(joined_input(alloc, text, &mut named)?),
+            Opened::One(mut source) => Ok(ProcessInputs::Joined(read_input(alloc, &mut source)?)),
+            Opened::Named(named) => Ok(read_inputs(alloc, text, named)?),
         }
     }
 }

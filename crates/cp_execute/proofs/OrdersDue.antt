@@ -2,6 +2,7 @@
 use Rattle.std.proofs.Common.{◌≡◌, ◌≤◌, refl, ℕ, Bool, true, false, List, length, Option, None, Some, Ok, IfSome, subst, arith}
 use Rattle.std.proofs.lemmas.Bool.Decides.{nat_tests}
 use Rattle.std.specs.Prelude.{if◌then◌else◌, nat_le}
+use Rattle.cp_model.specs.Input.{cut}
 use Rattle.cp_model.specs.OrderText.{NotALine, order_text}
 use Rattle.cp_model.specs.Rounds.{Event}
 use Rattle.cp_model.specs.Syntax as s
@@ -32,17 +33,17 @@ input_is_fit (Some ys) bytes k e = subst (λ (bs : List ℕ). judge_input bs ≡
 -- What was made is due.
 pub replay_due : (how : Replay) (text input order : Option (List ℕ)) (t : s.Tree) (bytes events report : List ℕ) (Writes : List ℕ → Type 0)
     → IfSome text (λ xs. IsAccepted xs t) → IfSome input (λ ys. bytes ≡ ys) → judge_input bytes ≡ Ok tt → IfSome order (λ zs. events ≡ front zs)
-    → IsReplayed how t bytes events report → Writes report → Due how text input order Writes
+    → IsReplayed how t (cut bytes) events report → Writes report → Due how text input order Writes
 replay_due how text input order t bytes events report Writes accepted same fit read made written xs is =
     (t, of_known (λ zs. IsAccepted zs t) text xs accepted is, input_is_fit input bytes same fit, of_order)
   where
     of_order : (zs : List ℕ) → order ≡ Some zs
         → (rounds : List (List Event)) × (judge_order t zs ≡ Ok rounds)
-        × ((ys : List ℕ) → input ≡ Some ys → (report : List ℕ) × IsDueAfter how t ys rounds report × Writes report)
+        × ((ys : List ℕ) → input ≡ Some ys → (report : List ℕ) × IsDueAfter how t (cut ys) rounds report × Writes report)
     of_order zs here =
         let known = of_known (λ (os : List ℕ). events ≡ os) order zs (order_known order (processes_in t) events made.0 read made.1) here in (
           made.0,
           subst (λ (os : List ℕ). judge_order t os ≡ Ok made.0) known made.1,
           λ ys given.
-              (report, subst (λ (bs : List ℕ). IsDueAfter how t bs made.0 report) (of_known (λ (bs : List ℕ). bytes ≡ bs) input ys same given) made.2, written),
+              (report, subst (λ (bs : List ℕ). IsDueAfter how t (cut bs) made.0 report) (of_known (λ (bs : List ℕ). bytes ≡ bs) input ys same given) made.2, written),
         )

@@ -2,6 +2,7 @@
 use Rattle.std.specs.Prelude.{◌≡◌, ℕ, Bool, true, false, List, [], ◌∷◌, ◌++◌, Option, Some, Result, Ok, IfSome, codes}
 use Rattle.std.specs.Io.KnownBytes.{Appends, Keeps}
 use Rattle.cp_model.specs.Declarations.{globals}
+use Rattle.cp_model.specs.Input.{cut}
 use Rattle.cp_model.specs.Syntax as s
 use Rattle.cp_model.specs.View as view
 use Rattle.cp_model.specs.declared.tree.Tree as tree
@@ -32,9 +33,9 @@ IsReportOf true setup s bytes = IsReportWithChains setup s bytes
 -- The bytes are the report of the state that a single processor reaches after `run.rounds` rounds
 -- from the start. In each round the processes take their whole turns, private and kernel, one after
 -- another.
-abbrev pub IsDue : Run → s.Tree → List ℕ → List ℕ → Type 0
-IsDue run t input bytes =
-    let setup = setup_of t input run.tick.rounds in
+abbrev pub IsDue : Run → s.Tree → (ℕ → List ℕ) → List ℕ → Type 0
+IsDue run t inputs bytes =
+    let setup = setup_of t inputs run.tick.rounds in
     IsReportOf run.chains setup (r.run setup run.plan.turn.steps run.rounds (start setup)) bytes
 
 -- The tables are those of the text of this tree.
@@ -42,8 +43,8 @@ abbrev pub AreTablesOf : tree.Tree → Tables → Type 0
 AreTablesOf t tables = TablesRepresent (globals (erase.abstract (view.tree t))) tables t
 
 -- The bytes are due for every text of which this is the program, with these tables.
-abbrev pub IsDueOf : Run → Program → Tables → List ℕ → List ℕ → Type 0
-IsDueOf run program tables input bytes = (t : tree.Tree) → IsProgramOf (view.tree t) program → AreTablesOf t tables → IsDue run (view.tree t) input bytes
+abbrev pub IsDueOf : Run → Program → Tables → (ℕ → List ℕ) → List ℕ → Type 0
+IsDueOf run program tables inputs bytes = (t : tree.Tree) → IsProgramOf (view.tree t) program → AreTablesOf t tables → IsDue run (view.tree t) inputs bytes
 
 abbrev pub acceptance : List ℕ
 acceptance = codes "accepted" ++ 10 ∷ []
@@ -58,7 +59,7 @@ abbrev pub Reports : Run → Option (List ℕ) → Option (List ℕ) → Option 
 Reports run text input old new =
     (xs : List ℕ) → text ≡ Some xs
     → (t : s.Tree) × IsAccepted xs t
-    × ((ys : List ℕ) → input ≡ Some ys → (judge_input ys ≡ Ok tt) × (bytes : List ℕ) × IsDue run t ys bytes × Appends old new bytes)
+    × ((ys : List ℕ) → input ≡ Some ys → (judge_input ys ≡ Ok tt) × (bytes : List ℕ) × IsDue run t (cut ys) bytes × Appends old new bytes)
 
 -- After a write that failed: if the text is known, it is accepted, and a prefix of the line was
 -- written.
@@ -69,7 +70,7 @@ abbrev pub BeginsReport : Run → Option (List ℕ) → Option (List ℕ) → Op
 BeginsReport run text input old new =
     (xs : List ℕ) → text ≡ Some xs
     → (t : s.Tree) × IsAccepted xs t
-    × ((ys : List ℕ) → input ≡ Some ys → (judge_input ys ≡ Ok tt) × (bytes : List ℕ) × IsDue run t ys bytes × AppendsSome old new bytes)
+    × ((ys : List ℕ) → input ≡ Some ys → (judge_input ys ≡ Ok tt) × (bytes : List ℕ) × IsDue run t (cut ys) bytes × AppendsSome old new bytes)
 
 -- ---- jobs
 

@@ -1,6 +1,7 @@
 -- What a replay promises about the bytes that it reads and writes.
-use Rattle.std.specs.Prelude.{◌≡◌, ◌⊎◌, ℕ, List, [], Option, Some, Result, Ok, Err, IfSome, map}
+use Rattle.std.specs.Prelude.{◌≡◌, ◌⊎◌, ℕ, List, Option, Some, Result, Ok, Err, IfSome, map}
 use Rattle.std.specs.Io.KnownBytes.{Appends}
+use Rattle.cp_model.specs.Input.{cut}
 use Rattle.cp_model.specs.Syntax as s
 use Rattle.cp_model.specs.OrderText.{NotALine, Orders, OrderText}
 use Rattle.cp_model.specs.Orders.{replay}
@@ -17,7 +18,7 @@ use Rattle.cp_base_config.specs.declared.run.Replay.{Replay}
 use Rattle.cp_frontend.specs.Cutting.{judge_input}
 use Rattle.cp_frontend.specs.KnownRefusals.{RefusesInputOf, RefusesText}
 use Rattle.cp_execute.specs.Executed.{IsReportOf}
-use Rattle.cp_execute_start.specs.Starts.{setup_of}
+use Rattle.cp_execute_start.specs.Starts.{nothing_read, setup_of}
 use Rattle.cp_frontend.specs.Takings.{AppendsSome, Concern, IsAboutOrder, Text, concern, front}
 use Rattle.cp_frontend.specs.Texts.{IsAccepted}
 
@@ -25,7 +26,7 @@ use Rattle.cp_frontend.specs.Texts.{IsAccepted}
 
 -- How many processes a text has.
 abbrev pub processes_in : s.Tree → ℕ
-processes_in t = process_count (setup_of t [] 1)
+processes_in t = process_count (setup_of t nothing_read 1)
 
 -- The rounds of an order text, or why it is refused.
 abbrev pub rounds_reported : OrderText → Result (List (List Event)) Refusal
@@ -52,14 +53,14 @@ MakesReplays t rounds old new =
 
 -- The bytes are the report of the state that these rounds lead to from the start, each by the fold
 -- of its events.
-abbrev pub IsDueAfter : Replay → s.Tree → List ℕ → List (List Event) → List ℕ → Type 0
-IsDueAfter how t input rounds bytes =
-    let setup = setup_of t input how.tick.rounds in
+abbrev pub IsDueAfter : Replay → s.Tree → (ℕ → List ℕ) → List (List Event) → List ℕ → Type 0
+IsDueAfter how t inputs rounds bytes =
+    let setup = setup_of t inputs how.tick.rounds in
     IsReportOf how.chains setup (replay setup (start setup) (timed how.turn.steps rounds)) bytes
 
 -- The order is none that is refused, and the bytes are the report after its rounds.
-abbrev pub IsReplayed : Replay → s.Tree → List ℕ → List ℕ → List ℕ → Type 0
-IsReplayed how t input order bytes = (rounds : List (List Event)) × (judge_order t order ≡ Ok rounds) × IsDueAfter how t input rounds bytes
+abbrev pub IsReplayed : Replay → s.Tree → (ℕ → List ℕ) → List ℕ → List ℕ → Type 0
+IsReplayed how t inputs order bytes = (rounds : List (List Event)) × (judge_order t order ≡ Ok rounds) × IsDueAfter how t inputs rounds bytes
 
 -- ---- What was written
 
@@ -75,7 +76,7 @@ Due how text input order Writes =
     → (t : s.Tree) × IsAccepted xs t × IsFit input
     × ((zs : List ℕ) → order ≡ Some zs
     → (rounds : List (List Event)) × (judge_order t zs ≡ Ok rounds)
-    × ((ys : List ℕ) → input ≡ Some ys → (bytes : List ℕ) × IsDueAfter how t ys rounds bytes × Writes bytes))
+    × ((ys : List ℕ) → input ≡ Some ys → (bytes : List ℕ) × IsDueAfter how t (cut ys) rounds bytes × Writes bytes))
 
 abbrev pub Replays : Replay → Option (List ℕ) → Option (List ℕ) → Option (List ℕ) → Option (List ℕ) → Option (List ℕ) → Type 0
 Replays how text input order old new = Due how text input order (Appends old new)

@@ -9,6 +9,7 @@ ghost use Rattle.cp_frontend.specs.declared.refusal.Refusal.TheVariants as refus
 
 use crate::running::report_after_run;
 use cp_base_config::run::Run;
+use cp_frontend::inputs::ProcessInputs;
 use cp_frontend::refusal::Refusal;
 use cp_frontend::sources::{read_accepted, read_input};
 use cp_frontend::writing::write_result;
@@ -74,7 +75,8 @@ fn run_text<H: Threads + Wait + Sync, R: Read, S: Read, W: Write, G: TurnGate>(
 {
     let accepted = read_accepted(alloc, text)?;
     let bytes = read_input(alloc, input)?;
-    let report = report_after_run(rt, alloc, &accepted, &bytes, run, gate)?;
+    let inputs = ProcessInputs::Joined(bytes);
+    let report = report_after_run(rt, alloc, &accepted, &inputs, run, gate)?;
     write_result(out, &report)
 }
 

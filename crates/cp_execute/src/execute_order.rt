@@ -9,6 +9,7 @@ ghost use Rattle.cp_frontend.specs.declared.refusal.Refusal.TheVariants as refus
 
 use crate::replaying::report_after_replay;
 use cp_base_config::run::Replay;
+use cp_frontend::inputs::ProcessInputs;
 use cp_frontend::reading::read_text;
 use cp_frontend::refusal::Refusal;
 use cp_frontend::sources::{read_accepted, read_input};
@@ -52,7 +53,8 @@ pub fn execute_order<R: Read, S: Read, O: Read, W: Write>(
 {
     let accepted = read_accepted(alloc, text)?;
     let bytes = read_input(alloc, input)?;
+    let inputs = ProcessInputs::Joined(bytes);
     let events = read_text(alloc, order)?;
-    let report = report_after_replay(alloc, &accepted, &bytes, &events, replay)?;
+    let report = report_after_replay(alloc, &accepted, &inputs, &events, replay)?;
     write_result(out, &report)
 }

@@ -1,4 +1,4 @@
-//! Replaying a program: from its input and the bytes of an order to its report.
+//! Replaying a program: from its inputs and the bytes of an order to its report.
 
 ghost use Rattle.std.specs.Prelude.{◌≡◌, IfErr, IfOk, Ok, length};
 ghost use Rattle.cp_check.specs.Checked.{IsProgramOf};
@@ -8,6 +8,7 @@ ghost use Rattle.cp_base_schedule.specs.Reading.{AllWithin};
 ghost use Rattle.cp_base_schedule.specs.Rounds.{rounds_of};
 ghost use Rattle.cp_program.specs.View as program_view;
 ghost use Rattle.cp_rounds.specs.Views.{KeepsText, processes_of};
+ghost use Rattle.cp_frontend.specs.Inputs.{inputs_of};
 ghost use Rattle.cp_execute.specs.Executed.{AreTablesOf};
 ghost use Rattle.cp_execute.specs.MachineReports.{ReportsReplay};
 ghost use Rattle.cp_execute.specs.Replayed.{IsDueAfter, IsReplayed, MakesReplays, RefusesOrder, RefusesOrderFor, judge_order_of};
@@ -20,6 +21,7 @@ use cp_base_schedule::reading::read_orders;
 use cp_check::checking::{CompiledText, compile_accepted};
 use cp_compile_symbols::Tables;
 use cp_execute_start::starting::machine_at_start;
+use cp_frontend::inputs::ProcessInputs;
 use cp_frontend::refusal::Refusal;
 use cp_frontend::sources::AcceptedText;
 use cp_model::tree::Tree;
@@ -81,7 +83,7 @@ fn replay_program(
     tree: &Tree,
     program: Program,
     tables: &Tables<'_>,
-    input: &[u8],
+    inputs: &ProcessInputs,
     orders: &Orders,
     replay: &Replay,
 ) -> Result<Vec<u8>, AllocError>
@@ -89,12 +91,12 @@ fn replay_program(
     requires tables { AreTablesOf tree.now tables.now }
     requires within { AllWithin (length (program_view.program program).processes)
         (rounds_of orders.now) }
-    ensures { IfOk result (λ bytes. IsDueAfter replay.now (view.tree tree.now) input.now
-        (rounds_of orders.now) bytes.items) }
+    ensures { IfOk result (λ bytes. IsDueAfter replay.now (view.tree tree.now)
+        (inputs_of inputs.now) (rounds_of orders.now) bytes.items) }
 {
     reports();
     waits();
-    let mut machine = machine_at_start(alloc, program, tables, input, replay.tick)?;
+    let mut machine = machine_at_start(alloc, program, tables, inputs, replay.tick)?;
     replay_machine(alloc, &mut machine, orders, replay)
 }
 
@@ -105,22 +107,24 @@ fn replay_text(
     tree: &Tree,
     program: Program,
     tables: &Tables<'_>,
-    input: &[u8],
+    inputs: &ProcessInputs,
     order: &[u8],
     replay: &Replay,
 ) -> Result<Vec<u8>, Refusal>
     requires program { IsProgramOf (view.tree tree.now) program }
     requires tables { AreTablesOf tree.now tables.now }
     ensures report { IfOk result
-        (λ bytes. IsReplayed replay.now (view.tree tree.now) input.now order.now bytes.items) }
+        (λ bytes. IsReplayed replay.now (view.tree tree.now) (inputs_of inputs.now)
+        order.now bytes.items) }
     ensures refused { IfErr result (RefusesOrder (view.tree tree.now) order.now) }
 {
     let orders = orders_of(alloc, order, program.processes())?;
-    let bytes = replay_program(alloc, tree, program, tables, input, &orders, replay)?;
+    let bytes = replay_program(alloc, tree, program, tables, inputs, &orders, replay)?;
     Ok(bytes)
 }
 
-/// Replays the program of an accepted text and returns the report.
+/// Replays the program of an accepted text, whose processes read these inputs, and returns the
+/// report.
 ///
 /// # Errors
 ///
@@ -128,14 +132,14 @@ fn replay_text(
 pub fn report_after_replay(
     alloc: Global,
     accepted: &AcceptedText,
-    input: &[u8],
+    inputs: &ProcessInputs,
     order: &[u8],
     replay: &Replay,
 ) -> Result<Vec<u8>, Refusal>
     requires accepted { Accepted (view.tree accepted.now.tree) }
     ensures report { IfOk result
-        (λ bytes. IsReplayed replay.now (view.tree accepted.now.tree) input.now order.now
-        bytes.items) }
+        (λ bytes. IsReplayed replay.now (view.tree accepted.now.tree) (inputs_of inputs.now)
+        order.now bytes.items) }
     ensures refused { IfErr result (RefusesOrder (view.tree accepted.now.tree) order.now) }
 {
     let CompiledText { program, tables } = compile_accepted(alloc, accepted.key, &accepted.tree)?;
@@ -144,7 +148,7 @@ pub fn report_after_replay(
         &accepted.tree,
         program,
         &tables,
-        input,
+        inputs,
         order,
         replay,
     )

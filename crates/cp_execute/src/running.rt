@@ -1,4 +1,4 @@
-//! Running a program: from its input to its report.
+//! Running a program: from its inputs to its report.
 
 ghost use Rattle.std.specs.Prelude.{◌≡◌, IfErr, IfOk};
 ghost use Rattle.cp_model.specs.Rules.{Accepted};
@@ -6,12 +6,14 @@ ghost use Rattle.cp_model.specs.View as view;
 ghost use Rattle.cp_rounds.specs.Views.{KeepsText, machine_of};
 ghost use Rattle.cp_execute.specs.Executed.{IsDue, IsDueOf};
 ghost use Rattle.cp_execute.specs.MachineReports.{IsReport, ReportsRun};
+ghost use Rattle.cp_frontend.specs.Inputs.{inputs_of};
 ghost use Rattle.cp_frontend.specs.declared.refusal.Refusal.TheVariants as refusal;
 
 use cp_base_config::run::Run;
 use cp_check::checking::{CompiledText, compile_accepted};
 use cp_compile_symbols::Tables;
 use cp_execute_start::starting::machine_at_start;
+use cp_frontend::inputs::ProcessInputs;
 use cp_frontend::refusal::Refusal;
 use cp_frontend::sources::AcceptedText;
 use cp_model_machine::law::{reports, waits};
@@ -69,21 +71,21 @@ fn run_program<H: Threads + Wait + Sync, G: TurnGate>(
     alloc: Global,
     program: Program,
     tables: &Tables<'_>,
-    input: &[u8],
+    inputs: &ProcessInputs,
     run: &Run,
     gate: &G,
 ) -> Result<Vec<u8>, Refusal>
     ensures report { IfOk result
-        (λ bytes. IsDueOf run.now program tables.now input.now bytes.items) }
+        (λ bytes. IsDueOf run.now program tables.now (inputs_of inputs.now) bytes.items) }
     ensures memory { IfErr result (λ e. e ≡ refusal.Memory) }
 {
     reports();
     waits();
-    let mut machine = machine_at_start(alloc, program, tables, input, run.tick)?;
+    let mut machine = machine_at_start(alloc, program, tables, inputs, run.tick)?;
     run_machine(rt, alloc, &mut machine, run, gate)
 }
 
-/// Runs the program of an accepted text and returns the report.
+/// Runs the program of an accepted text, whose processes read these inputs, and returns the report.
 ///
 /// # Errors
 ///
@@ -92,15 +94,16 @@ pub fn report_after_run<H: Threads + Wait + Sync, G: TurnGate>(
     rt: &H,
     alloc: Global,
     accepted: &AcceptedText,
-    input: &[u8],
+    inputs: &ProcessInputs,
     run: &Run,
     gate: &G,
 ) -> Result<Vec<u8>, Refusal>
     requires accepted { Accepted (view.tree accepted.now.tree) }
     ensures report { IfOk result
-        (λ bytes. IsDue run.now (view.tree accepted.now.tree) input.now bytes.items) }
+        (λ bytes. IsDue run.now (view.tree accepted.now.tree) (inputs_of inputs.now)
+        bytes.items) }
     ensures memory { IfErr result (λ e. e ≡ refusal.Memory) }
 {
     let CompiledText { program, tables } = compile_accepted(alloc, accepted.key, &accepted.tree)?;
-    run_program(rt, alloc, program, &tables, input, run, gate)
+    run_program(rt, alloc, program, &tables, inputs, run, gate)
 }

@@ -1,5 +1,6 @@
 -- A traced machine: why its trace ends early, and what is due.
 use Rattle.std.proofs.Common.{◌≡◌, List, ℕ, Ok, Option, None, Some, IfSome, inl, inr, sym, subst}
+use Rattle.cp_model.specs.Input.{cut}
 use Rattle.cp_model.specs.Syntax as s
 use Rattle.cp_rounds.specs.declared.finished_machine.FinishedMachine.{FinishedMachine}
 use Rattle.cp_frontend.specs.Cutting.{judge_input}
@@ -33,11 +34,11 @@ fault_input old new e (inr write) taken = subst (λ (r : Refusal). TakesInputAt 
 -- ---- What is due
 
 pub trace_due : (how : Tracing) (machine : FinishedMachine) (text input : Option (List ℕ)) (t : s.Tree) (bytes : List ℕ)
-    → IfSome text (λ xs. IsAccepted xs t) → IfSome input (λ ys. bytes ≡ ys) → judge_input bytes ≡ Ok tt → IsTraced how t bytes machine → Traces how machine text input
+    → IfSome text (λ xs. IsAccepted xs t) → IfSome input (λ ys. bytes ≡ ys) → judge_input bytes ≡ Ok tt → IsTraced how t (cut bytes) machine → Traces how machine text input
 trace_due how machine text input t bytes accepted same fit made xs is =
     (t, of_known (λ zs. IsAccepted zs t) text xs accepted is, of_input)
   where
-    of_input : (ys : List ℕ) → input ≡ Some ys → (judge_input ys ≡ Ok tt) × IsTraced how t ys machine
+    of_input : (ys : List ℕ) → input ≡ Some ys → (judge_input ys ≡ Ok tt) × IsTraced how t (cut ys) machine
     of_input ys given =
         let known = of_known (λ (bs : List ℕ). bytes ≡ bs) input ys same given in
-        (subst (λ (bs : List ℕ). judge_input bs ≡ Ok tt) known fit, subst (λ (bs : List ℕ). IsTraced how t bs machine) known made)
+        (subst (λ (bs : List ℕ). judge_input bs ≡ Ok tt) known fit, subst (λ (bs : List ℕ). IsTraced how t (cut bs) machine) known made)

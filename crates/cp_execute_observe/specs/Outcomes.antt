@@ -2,6 +2,7 @@
 use Rattle.std.specs.Prelude.{◌≡◌, ◌<◌, ◌≤◌, ℕ, Bool, false, true, List, Ok, Option, Some}
 use Rattle.std.specs.Borrow.{Bor}
 use Rattle.std.specs.Io.KnownBytes.{Appends}
+use Rattle.cp_model.specs.Input.{cut}
 use Rattle.cp_model.specs.Syntax as s
 use Rattle.cp_model.specs.Rounds.{run}
 use Rattle.cp_model.specs.Start.{start}
@@ -18,23 +19,23 @@ use Rattle.cp_frontend.specs.Takings.{AppendsSome}
 use Rattle.cp_frontend.specs.Texts.{IsAccepted}
 
 -- The state that one processor reaches by so many rounds.
-abbrev pub state_after : UntilStill → s.Tree → List ℕ → ℕ → State
-state_after how t input n = let setup = setup_of t input how.tick.rounds in run setup how.plan.turn.steps n (start setup)
+abbrev pub state_after : UntilStill → s.Tree → (ℕ → List ℕ) → ℕ → State
+state_after how t inputs n = let setup = setup_of t inputs how.tick.rounds in run setup how.plan.turn.steps n (start setup)
 
-abbrev pub is_still_after : UntilStill → s.Tree → List ℕ → ℕ → Bool
-is_still_after how t input n = is_still (setup_of t input how.tick.rounds) (state_after how t input n)
+abbrev pub is_still_after : UntilStill → s.Tree → (ℕ → List ℕ) → ℕ → Bool
+is_still_after how t inputs n = is_still (setup_of t inputs how.tick.rounds) (state_after how t inputs n)
 
 -- After so many rounds nothing can move or the limit is reached, and after no fewer. The verdict is
 -- that on the state then, if servers may wait forever. It is `Ended` exactly if each process has
 -- ended, or is a server and is delayed. The bytes report all this in the form.
-pub record IsOutcome (how : UntilStill) (servers : List ℕ) (form : OutcomeForm (Bor (List ℕ))) (t : s.Tree) (input : List ℕ) (v : Verdict) (bytes : List ℕ) : Type 0 where
+pub record IsOutcome (how : UntilStill) (servers : List ℕ) (form : OutcomeForm (Bor (List ℕ))) (t : s.Tree) (inputs : ℕ → List ℕ) (v : Verdict) (bytes : List ℕ) : Type 0 where
   pub rounds : ℕ
   pub most : rounds ≤ how.limit
-  pub still : rounds < how.limit → is_still_after how t input rounds ≡ true
-  pub first : (k : ℕ) → k < rounds → is_still_after how t input k ≡ false
-  pub verdict : verdict_of servers (setup_of t input how.tick.rounds) (state_after how t input rounds) ≡ v
-  pub ended : IsEndOf servers (setup_of t input how.tick.rounds) (state_after how t input rounds) v
-  pub reported : Reports form (setup_of t input how.tick.rounds) (state_after how t input rounds) v rounds bytes
+  pub still : rounds < how.limit → is_still_after how t inputs rounds ≡ true
+  pub first : (k : ℕ) → k < rounds → is_still_after how t inputs k ≡ false
+  pub verdict : verdict_of servers (setup_of t inputs how.tick.rounds) (state_after how t inputs rounds) ≡ v
+  pub ended : IsEndOf servers (setup_of t inputs how.tick.rounds) (state_after how t inputs rounds) v
+  pub reported : Reports form (setup_of t inputs how.tick.rounds) (state_after how t inputs rounds) v rounds bytes
 
 -- If the text is known, then it is accepted. If the input is known too, it isn't refused, and
 -- `Writes` holds of an outcome with this verdict.
@@ -42,7 +43,7 @@ abbrev pub Due : UntilStill → List ℕ → OutcomeForm (Bor (List ℕ)) → Ve
 Due how servers form v text input Writes =
     (xs : List ℕ) → text ≡ Some xs
     → (t : s.Tree) × IsAccepted xs t
-    × ((ys : List ℕ) → input ≡ Some ys → (judge_input ys ≡ Ok tt) × (bytes : List ℕ) × IsOutcome how servers form t ys v bytes × Writes bytes)
+    × ((ys : List ℕ) → input ≡ Some ys → (judge_input ys ≡ Ok tt) × (bytes : List ℕ) × IsOutcome how servers form t (cut ys) v bytes × Writes bytes)
 
 -- What was written is an outcome with this verdict.
 abbrev pub ReportsOutcome : UntilStill → List ℕ → OutcomeForm (Bor (List ℕ)) → Verdict → Option (List ℕ) → Option (List ℕ) → Option (List ℕ) → Option (List ℕ) → Type 0

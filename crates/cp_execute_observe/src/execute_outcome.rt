@@ -10,6 +10,7 @@ ghost use Rattle.cp_frontend.specs.declared.refusal.Refusal.TheVariants as refus
 
 use crate::until_still::outcome_after_run;
 use cp_base_config::outcome::{OutcomeForm, UntilStill};
+use cp_frontend::inputs::ProcessInputs;
 use cp_frontend::refusal::Refusal;
 use cp_frontend::sources::{read_accepted, read_input};
 use cp_frontend::writing::write_result;
@@ -61,7 +62,10 @@ pub fn execute_outcome<H: Threads + Wait + Sync, R: Read, S: Read, W: Write, G: 
 {
     let accepted = read_accepted(alloc, text)?;
     let bytes = read_input(alloc, input)?;
-    let outcome = outcome_after_run(rt, alloc, &accepted, &bytes, how, servers, form, show, gate)?;
+    let inputs = ProcessInputs::Joined(bytes);
+    let outcome = outcome_after_run(
+        rt, alloc, &accepted, &inputs, how, servers, form, show, gate,
+    )?;
     write_result(out, &outcome.bytes)?;
     Ok(outcome.verdict)
 }

@@ -11,6 +11,7 @@ ghost use Rattle.cp_frontend.specs.declared.refusal.Refusal.TheVariants as refus
 
 use crate::tracing::machine_after_trace;
 use cp_base_config::trace::Tracing;
+use cp_frontend::inputs::ProcessInputs;
 use cp_frontend::refusal::Refusal;
 use cp_frontend::sources::{read_accepted, read_input};
 use cp_rounds::finished_machine::FinishedMachine;
@@ -58,6 +59,7 @@ pub fn execute_trace<H: Threads + Wait + Sync, R: Read, S: Read, W: Write, G: Tu
 {
     let accepted = read_accepted(alloc, text)?;
     let bytes = read_input(alloc, input)?;
-    let machine = machine_after_trace(rt, alloc, &accepted, &bytes, only, how, gate, out)?;
+    let inputs = ProcessInputs::Joined(bytes);
+    let machine = machine_after_trace(rt, alloc, &accepted, &inputs, only, how, gate, out)?;
     Ok(machine)
 }

@@ -3,6 +3,7 @@
 ghost use Rattle.std.specs.Prelude.{◌≡◌, IfErr, IfOk, OnOk};
 ghost use Rattle.cp_model.specs.Rules.{Accepted};
 ghost use Rattle.cp_model.specs.View as view;
+ghost use Rattle.cp_frontend.specs.Inputs.{inputs_of};
 ghost use Rattle.cp_execute_observe.specs.Writing.{Extends, IsMemoryOrWrite, WritesTrace};
 ghost use Rattle.cp_execute_observe.specs.Traces.{IsTraced, IsTracedFrom};
 
@@ -10,6 +11,7 @@ use crate::rounds::trace;
 use cp_base_config::trace::Tracing;
 use cp_check::checking::{CompiledText, compile_accepted};
 use cp_execute_start::starting::machine_at_start;
+use cp_frontend::inputs::ProcessInputs;
 use cp_frontend::refusal::Refusal;
 use cp_frontend::sources::AcceptedText;
 use cp_model::tree::Tree;
@@ -44,9 +46,9 @@ fn trace_machine<'t, H: Threads + Wait + Sync, W: Write, G: TurnGate>(
     Ok(machine.halt())
 }
 
-/// Runs the program of an accepted text, writes what is reported of each round from the first that
-/// is reported, and returns the machine after the last round. Only the processes and monitors with
-/// the names in `only` are reported, or all if it is empty.
+/// Runs the program of an accepted text, whose processes read these inputs. Writes what is reported
+/// of each round from the first that is reported, and returns the machine after the last round.
+/// Only the processes and monitors with the names in `only` are reported, or all if it is empty.
 ///
 /// # Errors
 ///
@@ -55,7 +57,7 @@ pub fn machine_after_trace<H: Threads + Wait + Sync, W: Write, G: TurnGate>(
     rt: &H,
     alloc: Global,
     accepted: &AcceptedText,
-    input: &[u8],
+    inputs: &ProcessInputs,
     only: &[&str],
     how: &Tracing,
     gate: &G,
@@ -63,7 +65,8 @@ pub fn machine_after_trace<H: Threads + Wait + Sync, W: Write, G: TurnGate>(
 ) -> Result<FinishedMachine, Refusal>
     requires accepted { Accepted (view.tree accepted.now.tree) }
     ensures state { IfOk result
-        (λ machine. IsTraced how.now (view.tree accepted.now.tree) input.now machine) }
+        (λ machine. IsTraced how.now (view.tree accepted.now.tree) (inputs_of inputs.now)
+        machine) }
     ensures reported { OnOk result
         (WritesTrace how.now.form (W.contents out.old) (W.contents out.new)) }
     ensures written { Extends (W.contents out.old) (W.contents out.new) }
@@ -71,6 +74,6 @@ pub fn machine_after_trace<H: Threads + Wait + Sync, W: Write, G: TurnGate>(
 {
     let compiled = compile_accepted(alloc, accepted.key, &accepted.tree)?;
     let CompiledText { program, tables } = compiled;
-    let machine = machine_at_start(alloc, program, &tables, input, how.tick)?;
+    let machine = machine_at_start(alloc, program, &tables, inputs, how.tick)?;
     trace_machine(rt, alloc, &accepted.tree, machine, only, how, gate, out)
 }

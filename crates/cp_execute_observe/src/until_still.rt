@@ -1,9 +1,10 @@
-//! Running a program until nothing can move: from its input to the outcome.
+//! Running a program until nothing can move: from its inputs to the outcome.
 
 ghost use Rattle.std.specs.Prelude.{◌≡◌, ℕ, List, IfErr, IfOk};
 ghost use Rattle.cp_model.specs.Rules.{Accepted};
 ghost use Rattle.cp_model.specs.Syntax as s;
 ghost use Rattle.cp_model.specs.View as view;
+ghost use Rattle.cp_frontend.specs.Inputs.{inputs_of};
 ghost use Rattle.cp_execute_start.specs.Starts.{IsAtStart, setup_of};
 ghost use Rattle.cp_execute_observe.specs.Outcomes.{IsOutcome};
 ghost use Rattle.cp_frontend.specs.declared.refusal.Refusal.TheVariants as refusal;
@@ -13,6 +14,7 @@ use crate::looping::found_loop;
 use cp_base_config::outcome::{OutcomeForm, UntilStill};
 use cp_check::checking::{CompiledText, compile_accepted};
 use cp_execute_start::starting::machine_at_start;
+use cp_frontend::inputs::ProcessInputs;
 use cp_frontend::refusal::Refusal;
 use cp_frontend::sources::AcceptedText;
 use cp_outcome::verdict::{Verdict, verdict_on};
@@ -44,9 +46,9 @@ fn outcome_of<'t, H: Threads + Wait + Sync, G: TurnGate>(
     gate: &G,
 ) -> Result<Outcome, Refusal>
     requires first { machine.rounds ≡ 0 }
-    ensures outcome { IfOk result (λ outcome. (t : s.Tree) (input : List ℕ)
-        → IsAtStart (setup_of t input how.now.tick.rounds) machine.entry
-        → IsOutcome how.now servers.now form.entry t input outcome.verdict outcome.bytes.items) }
+    ensures outcome { IfOk result (λ outcome. (t : s.Tree) (inputs : ℕ → List ℕ)
+        → IsAtStart (setup_of t inputs how.now.tick.rounds) machine.entry
+        → IsOutcome how.now servers.now form.entry t inputs outcome.verdict outcome.bytes.items) }
     ensures memory { IfErr result (λ e. e ≡ refusal.Memory) }
 {
     let Ok(_rounds) = run_until_still(rt, &mut machine, how.limit, &how.plan, gate) else {
@@ -69,8 +71,9 @@ fn outcome_of<'t, H: Threads + Wait + Sync, G: TurnGate>(
     Ok(Outcome { verdict, bytes })
 }
 
-/// Runs the program of an accepted text until nothing can move, and returns the outcome in a form, with
-/// the variables that have names in `show`. The servers, by their numbers, may wait forever.
+/// Runs the program of an accepted text, whose processes read these inputs, until nothing can move.
+/// Returns the outcome in a form, with the variables that have names in `show`. The servers, by
+/// their numbers, may wait forever.
 ///
 /// # Errors
 ///
@@ -79,7 +82,7 @@ pub fn outcome_after_run<H: Threads + Wait + Sync, G: TurnGate>(
     rt: &H,
     alloc: Global,
     text: &AcceptedText,
-    input: &[u8],
+    inputs: &ProcessInputs,
     how: &UntilStill,
     servers: &[u32],
     form: OutcomeForm<&[u32]>,
@@ -88,11 +91,11 @@ pub fn outcome_after_run<H: Threads + Wait + Sync, G: TurnGate>(
 ) -> Result<Outcome, Refusal>
     requires accepted { Accepted (view.tree text.now.tree) }
     ensures outcome { IfOk result (λ outcome. IsOutcome how.now servers.now form.entry
-        (view.tree text.now.tree) input.now outcome.verdict outcome.bytes.items) }
+        (view.tree text.now.tree) (inputs_of inputs.now) outcome.verdict outcome.bytes.items) }
     ensures memory { IfErr result (λ e. e ≡ refusal.Memory) }
 {
     let compiled = compile_accepted(alloc, text.key, &text.tree)?;
     let CompiledText { program, tables } = compiled;
-    let machine = machine_at_start(alloc, program, &tables, input, how.tick)?;
+    let machine = machine_at_start(alloc, program, &tables, inputs, how.tick)?;
     outcome_of(rt, alloc, text, machine, how, servers, form, show, gate)
 }

@@ -18,11 +18,11 @@ pub kind_reached : (k : Kind) (servers : List ℕ) (rounds : List (List Event)) 
 kind_reached k servers rounds old new made shows = record { each = λ setup z I. shows.each setup (replay setup z (timed 1 rounds)) (made setup z I) }
 
 -- So do rounds that were read from an order, on a machine at its start.
-pub order_leads : (k : Kind) (servers : List ℕ) (t : s.Tree) (input order : List ℕ) (n : ℕ) (rounds : List (List Event)) (m : Machine) (o : Option StatusSnapshot)
-    → n ≡ processes_in t → judged n order ≡ Orders rounds → IsAtStart (setup_of t input 1) m → ReachesIfSome k servers rounds m o → LeadsIfSome k servers t input order o
-order_leads k servers t input order n rounds m None count read starts reached = tt
-order_leads k servers t input order n rounds m (Some snapshot) count read starts reached = record {
+pub order_leads : (k : Kind) (servers : List ℕ) (t : s.Tree) (inputs : ℕ → List ℕ) (order : List ℕ) (n : ℕ) (rounds : List (List Event)) (m : Machine) (o : Option StatusSnapshot)
+    → n ≡ processes_in t → judged n order ≡ Orders rounds → IsAtStart (setup_of t inputs 1) m → ReachesIfSome k servers rounds m o → LeadsIfSome k servers t inputs order o
+order_leads k servers t inputs order n rounds m None count read starts reached = tt
+order_leads k servers t inputs order n rounds m (Some snapshot) count read starts reached = record {
   rounds = rounds;
   read = subst (λ c. judge_order_of c order ≡ Ok rounds) count (ap rounds_reported read);
-  reached = reached.each (setup_of t input 1) (start (setup_of t input 1)) starts;
+  reached = reached.each (setup_of t inputs 1) (start (setup_of t inputs 1)) starts;
 }

@@ -26,19 +26,19 @@ IsOfKind kind.Fault servers setup s = all_pass has_no_fault s (processes setup) 
 
 -- The state to which these rounds lead from the start, where a turn has one step and the clock ticks
 -- in each round.
-abbrev pub state_after : s.Tree → List ℕ → List (List Event) → State
-state_after t input rounds = let setup = setup_of t input 1 in replay setup (start setup) (timed 1 rounds)
+abbrev pub state_after : s.Tree → (ℕ → List ℕ) → List (List Event) → State
+state_after t inputs rounds = let setup = setup_of t inputs 1 in replay setup (start setup) (timed 1 rounds)
 
 -- The bytes are an order of the text's processes, whose replay leads to a state of the kind.
-pub record LeadsTo (k : Kind) (servers : List ℕ) (t : s.Tree) (input order : List ℕ) : Type 0 where
+pub record LeadsTo (k : Kind) (servers : List ℕ) (t : s.Tree) (inputs : ℕ → List ℕ) (order : List ℕ) : Type 0 where
   pub rounds : List (List Event)
   pub read : judge_order t order ≡ Ok rounds
-  pub reached : IsOfKind k servers (setup_of t input 1) (state_after t input rounds)
+  pub reached : IsOfKind k servers (setup_of t inputs 1) (state_after t inputs rounds)
 
 -- A schedule that is shown leads to a state of the kind.
-abbrev pub IsCertified : Kind → List ℕ → s.Tree → List ℕ → Finding → Type 0
-IsCertified k servers t input (finding.Schedule found) = LeadsTo k servers t input found.schedule.order.items
-IsCertified k servers t input _ = Unit {0}
+abbrev pub IsCertified : Kind → List ℕ → s.Tree → (ℕ → List ℕ) → Finding → Type 0
+IsCertified k servers t inputs (finding.Schedule found) = LeadsTo k servers t inputs found.schedule.order.items
+IsCertified k servers t inputs _ = Unit {0}
 
 -- A schedule is shown.
 abbrev pub IsShown : Finding → Type 0
@@ -61,6 +61,6 @@ ReachesIfSome k servers rounds m None = Unit {0}
 ReachesIfSome k servers rounds m (Some snapshot) = ReachesKind k servers rounds m
 
 -- If there is a snapshot, the order leads to a state of the kind.
-abbrev pub LeadsIfSome : Kind → List ℕ → s.Tree → List ℕ → List ℕ → Option StatusSnapshot → Type 0
-LeadsIfSome k servers t input order None = Unit {0}
-LeadsIfSome k servers t input order (Some snapshot) = LeadsTo k servers t input order
+abbrev pub LeadsIfSome : Kind → List ℕ → s.Tree → (ℕ → List ℕ) → List ℕ → Option StatusSnapshot → Type 0
+LeadsIfSome k servers t inputs order None = Unit {0}
+LeadsIfSome k servers t inputs order (Some snapshot) = LeadsTo k servers t inputs order

@@ -1,6 +1,7 @@
 -- What a search promises about what it shows and about the bytes that it reads and writes.
 use Rattle.std.specs.Prelude.{List, None, Ok, Option, Some, ℕ, ◌≡◌}
 use Rattle.std.specs.Io.KnownBytes.{Appends}
+use Rattle.cp_model.specs.Input.{cut}
 use Rattle.cp_model.specs.Syntax as s
 use Rattle.cp_law_servers.specs.Laws.{NoneIsStuckBut}
 use Rattle.cp_output.specs.Json.{IsJsonLine}
@@ -23,8 +24,8 @@ use Rattle.cp_execute_search.specs.declared.verdict.SearchVerdict.TheVariants as
 -- By no list of rounds of events of the text's processes, with turns of any lengths and a clock that
 -- ticks ever so often, a process faults. In each still state that such rounds lead to, each process has
 -- ended, or is a server and is delayed.
-pub record IsFine (servers : List ℕ) (t : s.Tree) (input : List ℕ) : Type 0 where
-  pub each : (tick : ℕ) → NoneIsStuckBut servers (setup_of t input tick)
+pub record IsFine (servers : List ℕ) (t : s.Tree) (inputs : ℕ → List ℕ) : Type 0 where
+  pub each : (tick : ℕ) → NoneIsStuckBut servers (setup_of t inputs tick)
 
 -- All states were seen, and no schedule was found.
 pub record FoundNothing (found : Findings) : Type 0 where
@@ -32,14 +33,14 @@ pub record FoundNothing (found : Findings) : Type 0 where
   pub stuck : found.stuck ≡ finding.None
   pub fault : found.fault ≡ finding.None
 
--- What a search of a text with an input has found, and the verdict on it.
-pub record IsSearchOf (servers : List ℕ) (t : s.Tree) (input : List ℕ) (v : SearchVerdict) (found : Findings) : Type 0 where
-  pub fine : v ≡ verdict.Fine → IsFine servers t input
-  pub nothing : FoundNothing found → IsFine servers t input
+-- What a search of a text with these inputs has found, and the verdict on it.
+pub record IsSearchOf (servers : List ℕ) (t : s.Tree) (inputs : ℕ → List ℕ) (v : SearchVerdict) (found : Findings) : Type 0 where
+  pub fine : v ≡ verdict.Fine → IsFine servers t inputs
+  pub nothing : FoundNothing found → IsFine servers t inputs
   pub is_stuck : v ≡ verdict.Stuck → IsShown found.stuck
   pub is_fault : v ≡ verdict.Fault → IsShown found.fault
-  pub stuck : IsCertified kind.Stuck servers t input found.stuck
-  pub fault : IsCertified kind.Fault servers t input found.fault
+  pub stuck : IsCertified kind.Stuck servers t inputs found.stuck
+  pub fault : IsCertified kind.Fault servers t inputs found.fault
 
 -- ---- While it is made
 
@@ -50,13 +51,13 @@ pub record SawNothing (seen : Seen) : Type 0 where
   pub fault : seen.fault ≡ None
 
 -- If a search saw nothing, each text of which this is the program is fine.
-abbrev pub IsSeen : List ℕ → Program → List ℕ → Seen → Type 0
-IsSeen servers program input seen = SawNothing seen → (t : s.Tree) → IsProgramOf t program → IsFine servers t input
+abbrev pub IsSeen : List ℕ → Program → (ℕ → List ℕ) → Seen → Type 0
+IsSeen servers program inputs seen = SawNothing seen → (t : s.Tree) → IsProgramOf t program → IsFine servers t inputs
 
 -- What was found is certified, and if nothing was, a search saw nothing.
-pub record IsFoundIn (servers : List ℕ) (t : s.Tree) (input : List ℕ) (seen : Seen) (found : Findings) : Type 0 where
-  pub stuck : IsCertified kind.Stuck servers t input found.stuck
-  pub fault : IsCertified kind.Fault servers t input found.fault
+pub record IsFoundIn (servers : List ℕ) (t : s.Tree) (inputs : ℕ → List ℕ) (seen : Seen) (found : Findings) : Type 0 where
+  pub stuck : IsCertified kind.Stuck servers t inputs found.stuck
+  pub fault : IsCertified kind.Fault servers t inputs found.fault
   pub nothing : FoundNothing found → SawNothing seen
 
 -- ---- What is written
@@ -71,7 +72,7 @@ abbrev pub Due : List ℕ → SearchForm → SearchVerdict → Findings → Opti
 Due servers how v found text input Writes =
     (xs : List ℕ) → text ≡ Some xs
     → (t : s.Tree) × IsAccepted xs t
-    × ((ys : List ℕ) → input ≡ Some ys → (judge_input ys ≡ Ok tt) × IsSearchOf servers t ys v found × (bytes : List ℕ) × IsWritten how bytes × Writes bytes)
+    × ((ys : List ℕ) → input ≡ Some ys → (judge_input ys ≡ Ok tt) × IsSearchOf servers t (cut ys) v found × (bytes : List ℕ) × IsWritten how bytes × Writes bytes)
 
 -- What was written is the result of a search.
 abbrev pub ReportsSearch : List ℕ → SearchForm → SearchVerdict → Findings → Option (List ℕ) → Option (List ℕ) → Option (List ℕ) → Option (List ℕ) → Type 0

@@ -6,6 +6,7 @@ ghost use Rattle.cp_model.specs.View as view;
 ghost use Rattle.cp_base_schedule.specs.Reading.{AllWithin};
 ghost use Rattle.cp_base_schedule.specs.Rounds.{rounds_of};
 ghost use Rattle.cp_check.specs.Checked.{IsProgramOf};
+ghost use Rattle.cp_frontend.specs.Inputs.{inputs_of};
 ghost use Rattle.cp_outcome_schedule.specs.declared.findings.Finding.TheVariants as variants;
 ghost use Rattle.cp_outcome.specs.declared.verdict.Verdict.TheVariants as verdicts;
 ghost use Rattle.cp_rounds.specs.Views.{processes_of};
@@ -20,6 +21,7 @@ use cp_check::checking::{CompiledText, compile_accepted};
 use cp_execute::replaying::replay_rounds;
 use cp_execute_observe::snapshot::snapshot_of;
 use cp_execute_start::starting::machine_at_start;
+use cp_frontend::inputs::ProcessInputs;
 use cp_frontend::sources::AcceptedText;
 use cp_outcome::verdict::{Verdict, none_has_faulted, verdict_on};
 use cp_outcome_reasons::snapshot::StatusSnapshot;
@@ -76,14 +78,15 @@ fn replay_text(
     alloc: Global,
     text: &AcceptedText,
     compiled: CompiledText<'_>,
-    input: &[u8],
+    inputs: &ProcessInputs,
     order: &[u8],
     servers: &[u32],
     kind: Kind,
 ) -> Result<Option<StatusSnapshot>, AllocError>
     requires program { IsProgramOf (view.tree text.now.tree) compiled.program }
     ensures { IfOk result
-        (LeadsIfSome kind servers.now (view.tree text.now.tree) input.now order.now) }
+        (LeadsIfSome kind servers.now (view.tree text.now.tree) (inputs_of inputs.now)
+        order.now) }
 {
     let CompiledText { program, tables } = compiled;
     let orders = match read_orders(alloc, order, program.processes()) {
@@ -91,7 +94,7 @@ fn replay_text(
         Err(OrderError::Memory) => return Err(AllocError),
         Err(OrderError::Line { .. }) => return Ok(None),
     };
-    let mut machine = machine_at_start(alloc, program, &tables, input, EACH_ROUND)?;
+    let mut machine = machine_at_start(alloc, program, &tables, inputs, EACH_ROUND)?;
     replay_machine(alloc, &mut machine, &orders, servers, kind)
 }
 
@@ -104,18 +107,26 @@ fn replay_text(
 pub(crate) fn certify(
     alloc: Global,
     text: &AcceptedText,
-    input: &[u8],
+    inputs: &ProcessInputs,
     schedule: Schedule,
     servers: &[u32],
     kind: Kind,
 ) -> Result<Finding, AllocError>
     requires accepted { Accepted (view.tree text.now.tree) }
     ensures certified { IfOk result
-        (IsCertified kind servers.now (view.tree text.now.tree) input.now) }
+        (IsCertified kind servers.now (view.tree text.now.tree) (inputs_of inputs.now)) }
     ensures found { IfOk result (λ found. found ≡ variants.None → ⊥) }
 {
     let compiled = compile_accepted(alloc, text.key, &text.tree)?;
-    match replay_text(alloc, text, compiled, input, &schedule.order, servers, kind)? {
+    match replay_text(
+        alloc,
+        text,
+        compiled,
+        inputs,
+        &schedule.order,
+        servers,
+        kind,
+    )? {
         Some(snapshot) => Ok(Finding::Schedule(Found { schedule, snapshot })),
         None => Ok(Finding::Defect),
     }

@@ -11,6 +11,7 @@ ghost use Rattle.cp_execute_search.specs.Searches.{BeginsSearch, ReportsSearch};
 use crate::searching::{Reported, search_text};
 use crate::verdict::SearchVerdict;
 use cp_base_config::search::Searching;
+use cp_frontend::inputs::ProcessInputs;
 use cp_frontend::refusal::Refusal;
 use cp_frontend::sources::{read_accepted, read_input};
 use cp_frontend::writing::write_result;
@@ -64,7 +65,8 @@ pub fn execute_search<R: Read, S: Read, W: Write, V: Watch>(
 {
     let accepted = read_accepted(alloc, text)?;
     let bytes = read_input(alloc, input)?;
-    let reported = search_text(alloc, &accepted, &bytes, servers, how, watch)?;
+    let inputs = ProcessInputs::Joined(bytes);
+    let reported = search_text(alloc, &accepted, &inputs, servers, how, watch)?;
     write_result(out, &reported.page)?;
     let Reported {
         verdict,

@@ -1,9 +1,10 @@
-//! Searching the program of an accepted text: from its input to what was found.
+//! Searching the program of an accepted text: from its inputs to what was found.
 
 ghost use Rattle.std.specs.Prelude.{◌≡◌, IfErr, IfOk, true};
 ghost use Rattle.cp_model.specs.Rules.{Accepted};
 ghost use Rattle.cp_model.specs.View as view;
 ghost use Rattle.cp_check.specs.Checked.{IsProgramOf};
+ghost use Rattle.cp_frontend.specs.Inputs.{inputs_of};
 ghost use Rattle.cp_frontend.specs.declared.refusal.Refusal.TheVariants as refusal;
 ghost use Rattle.cp_execute_search.specs.Certificates.{IsCertified, IsShown};
 ghost use Rattle.cp_execute_search.specs.Searches.{FoundNothing, IsFoundIn, IsSearchOf, IsWritten};
@@ -17,6 +18,7 @@ use crate::seeing::{Seen, see};
 use crate::verdict::SearchVerdict;
 use cp_base_config::search::Searching;
 use cp_check::checking::{CompiledText, compile_accepted};
+use cp_frontend::inputs::ProcessInputs;
 use cp_frontend::refusal::Refusal;
 use cp_frontend::sources::AcceptedText;
 use cp_outcome_schedule::findings::{Finding, Findings, Subject};
@@ -37,20 +39,20 @@ pub struct Reported {
 fn finding_of(
     alloc: Global,
     text: &AcceptedText,
-    input: &[u8],
+    inputs: &ProcessInputs,
     recorded: Option<Recorded>,
     servers: &[u32],
     kind: Kind,
 ) -> Result<Finding, AllocError>
     requires accepted { Accepted (view.tree text.now.tree) }
     ensures certified { IfOk result
-        (IsCertified kind servers.now (view.tree text.now.tree) input.now) }
+        (IsCertified kind servers.now (view.tree text.now.tree) (inputs_of inputs.now)) }
     ensures none { IfOk result (λ found. found ≡ variants.None → recorded ≡ None) }
 {
     match recorded {
         None => Ok(Finding::None),
         Some(Recorded::TooLong) => Ok(Finding::TooLong),
-        Some(Recorded::Schedule(schedule)) => certify(alloc, text, input, schedule, servers, kind),
+        Some(Recorded::Schedule(schedule)) => certify(alloc, text, inputs, schedule, servers, kind),
     }
 }
 
@@ -58,16 +60,17 @@ fn finding_of(
 fn findings_of(
     alloc: Global,
     text: &AcceptedText,
-    input: &[u8],
+    inputs: &ProcessInputs,
     servers: &[u32],
     seen: Seen,
 ) -> Result<Findings, AllocError>
     requires accepted { Accepted (view.tree text.now.tree) }
-    ensures { IfOk result (IsFoundIn servers.now (view.tree text.now.tree) input.now seen) }
+    ensures { IfOk result
+        (IsFoundIn servers.now (view.tree text.now.tree) (inputs_of inputs.now) seen) }
 {
     Ok(Findings {
-        stuck: finding_of(alloc, text, input, seen.stuck, servers, Kind::Stuck)?,
-        fault: finding_of(alloc, text, input, seen.fault, servers, Kind::Fault)?,
+        stuck: finding_of(alloc, text, inputs, seen.stuck, servers, Kind::Stuck)?,
+        fault: finding_of(alloc, text, inputs, seen.fault, servers, Kind::Fault)?,
         has_ended: seen.has_ended,
         states: seen.states,
         transitions: seen.transitions,
@@ -123,7 +126,7 @@ fn search_compiled<V: Watch>(
     alloc: Global,
     text: &AcceptedText,
     compiled: &CompiledText<'_>,
-    input: &[u8],
+    inputs: &ProcessInputs,
     servers: &[u32],
     how: Searching,
     watch: &V,
@@ -131,11 +134,11 @@ fn search_compiled<V: Watch>(
     requires accepted { Accepted (view.tree text.now.tree) }
     requires program { IsProgramOf (view.tree text.now.tree) compiled.now.program }
     ensures search { IfOk result (λ reported. IsSearchOf servers.now (view.tree text.now.tree)
-        input.now reported.verdict reported.findings) }
+        (inputs_of inputs.now) reported.verdict reported.findings) }
     ensures page { IfOk result (λ reported. IsWritten how.form reported.page.items) }
 {
-    let seen = see(alloc, &compiled.program, input, servers, how, watch)?;
-    let findings = findings_of(alloc, text, input, servers, seen)?;
+    let seen = see(alloc, &compiled.program, inputs, servers, how, watch)?;
+    let findings = findings_of(alloc, text, inputs, servers, seen)?;
     let verdict = verdict_of(&findings);
     let subject = Subject {
         bytes: &text.bytes,
@@ -152,7 +155,8 @@ fn search_compiled<V: Watch>(
     })
 }
 
-/// Searches the program of an accepted text. The servers, by their numbers, may wait forever.
+/// Searches the program of an accepted text, whose processes read these inputs. The servers, by
+/// their numbers, may wait forever.
 ///
 /// # Errors
 ///
@@ -160,18 +164,18 @@ fn search_compiled<V: Watch>(
 pub fn search_text<V: Watch>(
     alloc: Global,
     text: &AcceptedText,
-    input: &[u8],
+    inputs: &ProcessInputs,
     servers: &[u32],
     how: Searching,
     watch: &V,
 ) -> Result<Reported, Refusal>
     requires accepted { Accepted (view.tree text.now.tree) }
     ensures search { IfOk result (λ reported. IsSearchOf servers.now (view.tree text.now.tree)
-        input.now reported.verdict reported.findings) }
+        (inputs_of inputs.now) reported.verdict reported.findings) }
     ensures page { IfOk result (λ reported. IsWritten how.form reported.page.items) }
     ensures memory { IfErr result (λ e. e ≡ refusal.Memory) }
 {
     let compiled = compile_accepted(alloc, text.key, &text.tree)?;
-    let reported = search_compiled(alloc, text, &compiled, input, servers, how, watch)?;
+    let reported = search_compiled(alloc, text, &compiled, inputs, servers, how, watch)?;
     Ok(reported)
 }

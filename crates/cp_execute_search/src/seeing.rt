@@ -1,11 +1,12 @@
 //! The search of a program, and the schedules of the states that it has found.
 
 ghost use Rattle.std.specs.Prelude.{◌≡◌, IfOk, None, true};
+ghost use Rattle.cp_frontend.specs.Inputs.{inputs_of};
 ghost use Rattle.cp_execute_search.specs.Searches.{IsSeen};
 
 use cp_base_config::search::Searching;
 use cp_base_config::turn::Turn;
-use cp_frontend::cutting::cut_input;
+use cp_frontend::inputs::ProcessInputs;
 use cp_program::program::Program;
 use cp_search::notes::{Limits, Notes, Stop};
 use cp_search::search::{Explored, Watch, search};
@@ -73,8 +74,8 @@ fn record_at(
     Ok(Some(record(alloc, program, inputs, &callers)?))
 }
 
-/// Searches all schedules of a program with an input. The servers, by their numbers, may wait
-/// forever.
+/// Searches all schedules of a program whose processes read these inputs. The servers, by their
+/// numbers, may wait forever.
 ///
 /// # Errors
 ///
@@ -82,14 +83,14 @@ fn record_at(
 pub(crate) fn see<V: Watch>(
     alloc: Global,
     program: &Program,
-    input: &[u8],
+    inputs: &ProcessInputs,
     servers: &[u32],
     how: Searching,
     watch: &V,
 ) -> Result<Seen, AllocError>
-    ensures { IfOk result (IsSeen servers.now program.now input.now) }
+    ensures { IfOk result (IsSeen servers.now program.now (inputs_of inputs.now)) }
 {
-    let inputs = cut_input(alloc, input, program.processes())?;
+    let inputs = inputs.by_process(alloc, program.processes())?;
     let explored = search(alloc, program, &inputs, servers, limits_of(how), watch)?;
     let stuck = record_at(
         alloc,

@@ -3,4 +3,3 @@ pub mod Parts
 pub mod TextRefusals
 pub mod Takings
 pub mod Faults
-pub mod Joined

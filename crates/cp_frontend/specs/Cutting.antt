@@ -1,7 +1,6 @@
 -- Which inputs are refused, and what the inputs of the processes are.
 use Rattle.std.specs.Prelude.{◌≡◌, ℕ, suc, List, [], ◌∷◌, Ok, Err, Result, Some, Vec, if◌then◌else◌, length, nat_eq, nat_le, slice_get}
 use Rattle.std.specs.Global.{Global}
-use Rattle.cp_model.specs.Input.{cut}
 use Rattle.cp_frontend.specs.declared.refusal.Refusal.{Refusal}
 use Rattle.cp_frontend.specs.declared.refusal.Refusal.TheVariants as refusal
 
@@ -26,6 +25,6 @@ abbrev pub Bytes : Type 0
 Bytes = Vec ℕ Global
 
 -- `all` holds the inputs of the first `n` processes.
-pub record AreParts (input : List ℕ) (n : ℕ) (all : List Bytes) : Type 0 where
+pub record AreInputs (inputs : ℕ → List ℕ) (n : ℕ) (all : List Bytes) : Type 0 where
   pub count : length all ≡ n
-  pub each : (i : ℕ) (v : Bytes) → slice_get all i ≡ Some v → v.items ≡ cut input (suc i)
+  pub each : (i : ℕ) (v : Bytes) → slice_get all i ≡ Some v → v.items ≡ inputs (suc i)

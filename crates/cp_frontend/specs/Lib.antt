@@ -3,4 +3,4 @@ pub mod Cutting
 pub mod Texts
 pub mod Takings
 pub mod KnownRefusals
-pub mod Joining
+pub mod Inputs

@@ -2,7 +2,7 @@
 
 ghost use Rattle.std.specs.Prelude.{◌≡◌, ◌≤◌, ◌+◌, ℕ, suc, IfOk, Some, drop, length, slice_get, take};
 ghost use Rattle.cp_model.specs.Input.{cut};
-ghost use Rattle.cp_frontend.specs.Cutting.{AreParts, after_separator, front_part, judge_input};
+ghost use Rattle.cp_frontend.specs.Cutting.{AreInputs, after_separator, front_part, judge_input};
 
 use crate::refusal::Refusal;
 use cp_model::ordinals::LAST_CHARACTER;
@@ -66,7 +66,7 @@ fn rest(input: &[u8], part: usize) -> &[u8]
 ///
 /// `AllocError` if memory runs out.
 pub fn cut_input(alloc: Global, input: &[u8], processes: usize) -> Result<Vec<Vec<u8>>, AllocError>
-    ensures parts { IfOk result (λ all. AreParts input.now processes all.items) }
+    ensures parts { IfOk result (λ all. AreInputs (cut input.now) processes all.items) }
 {
     let mut all = Vec::with_capacity(alloc, processes)?;
     let mut left = input;

@@ -6,7 +6,7 @@ use cp_base_config::outcome::{OutcomeForm, UntilStill};
 use cp_base_config::run::{Replay, Run};
 use cp_base_config::trace::Tracing;
 use cp_cli::command::{Inputs, STANDARD_INPUT, Shown};
-use cp_cli_inputs::named::{joined_input, process_numbers, unknown_name, unknown_variable};
+use cp_cli_inputs::named::{process_numbers, read_inputs, unknown_name, unknown_variable};
 use cp_cli_progress::Progress;
 use cp_cli_sources::failure::Failure;
 use cp_cli_sources::inputs::{Opened, Sources, open_inputs, open_sources};
@@ -20,6 +20,7 @@ use cp_execute::replaying::report_after_replay;
 use cp_execute::running::report_after_run;
 use cp_execute_observe::tracing::machine_after_trace;
 use cp_execute_observe::until_still::outcome_after_run;
+use cp_frontend::inputs::ProcessInputs;
 use cp_frontend::refusal::Refusal;
 use cp_frontend::sources::{AcceptedText, read_accepted};
 use cp_frontend::writing::write_result;
@@ -59,18 +60,18 @@ pub(crate) fn check<'a, H: Clock + Eprint + Files + Input + Print + Threads + Wa
     Ok(())
 }
 
-// Runs an accepted text on an input, and prints the report.
+// Runs an accepted text on these inputs, and prints the report.
 fn print_report<H: Clock + Eprint + Print + Threads + Wait + Sync>(
     rt: &H,
     alloc: Global,
     text: &AcceptedText,
-    input: &[u8],
+    inputs: &ProcessInputs,
     run: &Run,
     progress: bool,
 ) -> Result<(), Refusal> {
     let progress = Progress::of(rt, progress);
     let mut out = progress.beside(io::writer(rt));
-    let report = report_after_run(rt, alloc, text, input, run, &progress);
+    let report = report_after_run(rt, alloc, text, inputs, run, &progress);
     progress.erase();
     write_result(&mut out, &report?)?;
     flush(&mut out)
@@ -90,10 +91,10 @@ pub(crate) fn run<'a, H: Clock + Eprint + Files + Input + Print + Threads + Wait
         Opened::One(mut input) => {
             print_job(rt, alloc, &mut text, &mut input, &Job::Run(run), progress)?;
         }
-        Opened::Named(mut named) => {
+        Opened::Named(named) => {
             let text = read_accepted(alloc, &mut text)?;
-            let input = joined_input(alloc, &text, &mut named)?;
-            print_report(rt, alloc, &text, &input, &run, progress)?;
+            let inputs = read_inputs(alloc, &text, named)?;
+            print_report(rt, alloc, &text, &inputs, &run, progress)?;
         }
     }
     Ok(())
@@ -114,7 +115,7 @@ fn print_outcome<H: Clock + Eprint + Print + Threads + Wait + Sync>(
     rt: &H,
     alloc: Global,
     text: &AcceptedText,
-    input: &[u8],
+    inputs: &ProcessInputs,
     how: &UntilStill,
     servers: &[u32],
     form: OutcomeForm<&[u32]>,
@@ -124,7 +125,7 @@ fn print_outcome<H: Clock + Eprint + Print + Threads + Wait + Sync>(
     let progress = Progress::of(rt, screen.progress);
     let is_painting = screen.colours && matches!(form, OutcomeForm::Verdict);
     let mut out = progress.beside(Painter::new(alloc, io::writer(rt), is_painting));
-    let outcome = outcome_after_run(rt, alloc, text, input, how, servers, form, show, &progress);
+    let outcome = outcome_after_run(rt, alloc, text, inputs, how, servers, form, show, &progress);
     progress.erase();
     let outcome = outcome?;
     write_result(&mut out, &outcome.bytes)?;
@@ -162,10 +163,10 @@ pub(crate) fn outcome<'a, H: Clock + Eprint + Files + Input + Print + Threads + 
     let servers = process_numbers(alloc, &text, servers)?;
     let numbers = process_numbers(alloc, &text, &shown.processes)?;
     find_variables(alloc, &text, &shown.variables)?;
-    let input = inputs.read(alloc, &text)?;
+    let inputs = inputs.read(alloc, &text)?;
     let form = numbered(shown.form, &numbers);
     let show = &shown.variables;
-    let verdict = print_outcome(rt, alloc, &text, &input, how, &servers, form, show, screen)?;
+    let verdict = print_outcome(rt, alloc, &text, &inputs, how, &servers, form, show, screen)?;
     Ok(verdict)
 }
 
@@ -200,14 +201,14 @@ fn print_trace<H: Clock + Eprint + Print + Threads + Wait + Sync>(
     rt: &H,
     alloc: Global,
     text: &AcceptedText,
-    input: &[u8],
+    inputs: &ProcessInputs,
     only: &[&str],
     how: &Tracing,
     progress: bool,
 ) -> Result<(), Refusal> {
     let progress = Progress::of(rt, progress);
     let mut out = progress.beside(io::writer(rt));
-    let traced = machine_after_trace(rt, alloc, text, input, only, how, &progress, &mut out);
+    let traced = machine_after_trace(rt, alloc, text, inputs, only, how, &progress, &mut out);
     progress.erase();
     traced?;
     flush(&mut out)
@@ -226,8 +227,8 @@ pub(crate) fn trace<'a, H: Clock + Eprint + Files + Input + Print + Threads + Wa
 ) -> Result<(), Failure<'a>> {
     let Sources { text, inputs } = open_sources(rt, alloc, file, input)?;
     find_names(alloc, &text, only)?;
-    let input = inputs.read(alloc, &text)?;
-    print_trace(rt, alloc, &text, &input, only, how, progress)?;
+    let inputs = inputs.read(alloc, &text)?;
+    print_trace(rt, alloc, &text, &inputs, only, how, progress)?;
     Ok(())
 }
 
@@ -261,11 +262,11 @@ pub(crate) fn replay<'a, H: Files + Input + Print>(
         Opened::One(mut input) => {
             print_replay(rt, alloc, &mut text, &mut input, &mut order, replay)?;
         }
-        Opened::Named(mut named) => {
+        Opened::Named(named) => {
             let text = read_accepted(alloc, &mut text)?;
-            let input = joined_input(alloc, &text, &mut named)?;
+            let inputs = read_inputs(alloc, &text, named)?;
             let order = read_bytes(alloc, &mut order)?;
-            let report = report_after_replay(alloc, &text, &input, &order, replay)?;
+            let report = report_after_replay(alloc, &text, &inputs, &order, replay)?;
             print_bytes(rt, &report)?;
         }
     }

@@ -12,6 +12,7 @@ use cp_cli_sources::printing::{Screen, flush};
 use cp_cli_terminal::painter::Painter;
 use cp_execute_search::searching::{Reported, search_text};
 use cp_execute_search::verdict::status_of;
+use cp_frontend::inputs::ProcessInputs;
 use cp_frontend::refusal::Refusal;
 use cp_frontend::sources::AcceptedText;
 use cp_frontend::writing::write_result;
@@ -65,7 +66,7 @@ fn print_search<H: Clock + Eprint + Print>(
     rt: &H,
     alloc: Global,
     text: &AcceptedText,
-    input: &[u8],
+    inputs: &ProcessInputs,
     servers: &[u32],
     how: Searching,
     screen: Screen,
@@ -73,7 +74,7 @@ fn print_search<H: Clock + Eprint + Print>(
     let progress = Progress::of(rt, screen.progress);
     let is_painting = screen.colours && matches!(how.form, SearchForm::Lines);
     let mut out = progress.beside(Painter::new(alloc, io::writer(rt), is_painting));
-    let searched = search_text(alloc, text, input, servers, how, &progress);
+    let searched = search_text(alloc, text, inputs, servers, how, &progress);
     progress.erase();
     let searched = searched?;
     write_result(&mut out, &searched.page)?;
@@ -108,8 +109,8 @@ pub(crate) fn search<'a, H: Clock + Eprint + Files + Input + Print>(
         SearchForm::Lines => open_sources(rt, alloc, file, input)?,
     };
     let servers = process_numbers(alloc, &text, servers)?;
-    let input = inputs.read(alloc, &text)?;
-    let searched = print_search(rt, alloc, &text, &input, &servers, how, screen)?;
+    let inputs = inputs.read(alloc, &text)?;
+    let searched = print_search(rt, alloc, &text, &inputs, &servers, how, screen)?;
     if let Some(names) = names {
         names.save(rt, &searched.findings)?;
     }

@@ -1,6 +1,7 @@
-use Rattle.std.proofs.Common.{◌≡◌, ◌∙◌, ℕ, List, Ok, Some, subst, inl, inr}
+use Rattle.std.proofs.Common.{◌≡◌, ℕ, List, Ok, Some, subst, inl, inr}
 use Rattle.std.proofs.KnownBytes.{Keeps-refl}
 use Rattle.std.proofs.lemmas.Result.{err_from_is_err_and, on_ok_weaker}
+use Rattle.cp_model.specs.Input.{cut}
 use Rattle.cp_model.specs.Syntax as s
 use Rattle.cp_model.specs.View as view
 use Rattle.cp_model.proofs.Results.{if_err, on_err}
@@ -21,7 +22,7 @@ abbrev Made : (g : Over) → After-drop-accepted-3 g → List ℕ → Type 0
 Made g c xs =
     IsAccepted xs (view.tree c.in_ok-accepted.accepted.tree)
     × ((ys : List ℕ) → g.S.Read.remaining c.args.input.now ≡ Some ys
-    → (judge_input ys ≡ Ok tt) × IsDue c.args.run.now (view.tree c.in_ok-accepted.accepted.tree) ys c.in_ok-report.report.items)
+    → (judge_input ys ≡ Ok tt) × IsDue c.args.run.now (view.tree c.in_ok-accepted.accepted.tree) (cut ys) c.in_ok-report.report.items)
 
 made : (g : Over) (c : After-drop-accepted-3 g) (xs : List ℕ) → g.R.Read.remaining c.args.text.now ≡ Some xs → Made g c xs
 made g c xs text = (of_known (λ zs. IsAccepted zs t) (g.R.Read.remaining c.args.text.now) xs c.in_ok-accepted.ensures.text text, of_input)
@@ -29,11 +30,11 @@ made g c xs text = (of_known (λ zs. IsAccepted zs t) (g.R.Read.remaining c.args
     t : s.Tree
     t = view.tree c.in_ok-accepted.accepted.tree
 
-    of_input : (ys : List ℕ) → g.S.Read.remaining c.args.input.now ≡ Some ys → (judge_input ys ≡ Ok tt) × IsDue c.args.run.now t ys c.in_ok-report.report.items
+    of_input : (ys : List ℕ) → g.S.Read.remaining c.args.input.now ≡ Some ys → (judge_input ys ≡ Ok tt) × IsDue c.args.run.now t (cut ys) c.in_ok-report.report.items
     of_input ys input =
         let same : c.in_ok-bytes.bytes.items ≡ ys = of_known (λ zs. c.in_ok-bytes.bytes.items ≡ zs) (g.S.Read.remaining c.args.input.now) ys c.in_ok-bytes.ensures.input input in (
           subst (λ (bs : List ℕ). judge_input bs ≡ Ok tt) same c.in_ok-bytes.ensures.judged,
-          subst (λ (bs : List ℕ). IsDue c.args.run.now t bs c.in_ok-report.report.items) (c.deref.ensures.value ∙ same) c.in_ok-report.ensures.report,
+          subst (λ (bs : List ℕ). IsDue c.args.run.now t (cut bs) c.in_ok-report.report.items) same c.in_ok-report.ensures.report,
         )
 
 -- ---- the text is refused
@@ -117,7 +118,7 @@ returns-clause-reports g c =
     (λ written xs text.
     let m = made g c xs text in
     (view.tree c.in_ok-accepted.accepted.tree, m.0, λ ys input. let d = m.1 ys input in (d.0, c.in_ok-report.report.items, d.1, written)))
-    (rw c.deref-2.ensures.value at c.write_result.ensures.whole)
+    (rw c.deref.ensures.value at c.write_result.ensures.whole)
 
 pub returns-clause-beginning : goal.returns-clause-beginning
 returns-clause-beginning g c =
@@ -125,7 +126,7 @@ returns-clause-beginning g c =
     (λ e begun write xs text.
     let m = made g c xs text in
     (view.tree c.in_ok-accepted.accepted.tree, m.0, λ ys input. let d = m.1 ys input in (d.0, c.in_ok-report.report.items, d.1, begun)))
-    (rw c.deref-2.ensures.value at c.write_result.ensures.beginning)
+    (rw c.deref.ensures.value at c.write_result.ensures.beginning)
 
 pub returns-clause-faults : goal.returns-clause-faults
 returns-clause-faults g c = if_err c.write_result.result (λ e write xs t text is. inl (write_fault e write)) c.write_result.ensures.write

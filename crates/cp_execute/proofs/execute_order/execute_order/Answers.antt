@@ -1,5 +1,6 @@
 use Rattle.std.proofs.KnownBytes.{Keeps-refl}
 use Rattle.std.proofs.lemmas.Result.{err_from_is_err_and, on_ok_weaker}
+use Rattle.cp_model.specs.Input.{cut}
 use Rattle.cp_model.specs.View as view
 use Rattle.cp_model.proofs.Results.{if_err, on_err}
 use Rattle.cp_execute.specs.Replayed.{IsReplayed, RefusesOrder}
@@ -117,14 +118,14 @@ returns-in_err-events-clause-order g c =
 pub returns-in_err-report-clause-beginning : goal.returns-in_err-report-clause-beginning
 returns-in_err-report-clause-beginning g c =
     let p = err_from_is_err_and c.from_residual-in_err-report.result c.from_residual-in_err-report.ensures.1 in
-    let reported : RefusesOrder (view.tree c.in_ok-accepted.accepted.tree) c.in_ok-events.events.items c.in_err-report.field-0.0 = rw c.deref-2.ensures.value at c.in_err-report.ensures.refused in
+    let reported : RefusesOrder (view.tree c.in_ok-accepted.accepted.tree) c.in_ok-events.events.items c.in_err-report.field-0.0 = rw c.deref.ensures.value at c.in_err-report.ensures.refused in
     let refused = refuses_order_of (g.O.Read.remaining c.args.order.now) (view.tree c.in_ok-accepted.accepted.tree) c.in_ok-events.events.items c.in_err-report.field-0.0 c.in_ok-events.ensures.bytes reported in
     rw (p.1, p.2) (λ write. absurd (no_write_of_order c.in_err-report.field-0.0 refused.0 write))
 
 pub returns-in_err-report-clause-refused : goal.returns-in_err-report-clause-refused
 returns-in_err-report-clause-refused g c =
     let p = err_from_is_err_and c.from_residual-in_err-report.result c.from_residual-in_err-report.ensures.1 in
-    let reported : RefusesOrder (view.tree c.in_ok-accepted.accepted.tree) c.in_ok-events.events.items c.in_err-report.field-0.0 = rw c.deref-2.ensures.value at c.in_err-report.ensures.refused in
+    let reported : RefusesOrder (view.tree c.in_ok-accepted.accepted.tree) c.in_ok-events.events.items c.in_err-report.field-0.0 = rw c.deref.ensures.value at c.in_err-report.ensures.refused in
     let refused = refuses_order_of (g.O.Read.remaining c.args.order.now) (view.tree c.in_ok-accepted.accepted.tree) c.in_ok-events.events.items c.in_err-report.field-0.0 c.in_ok-events.ensures.bytes reported in
     rw (p.1, p.2) (λ other. replay_refused_order (g.R.Read.remaining c.args.text.now) (g.S.Read.remaining c.args.input.now) (g.O.Read.remaining c.args.order.now) (view.tree c.in_ok-accepted.accepted.tree) c.in_err-report.field-0.0 c.in_ok-accepted.ensures.text
     (input_is_fit (g.S.Read.remaining c.args.input.now) c.in_ok-bytes.bytes.items c.in_ok-bytes.ensures.input c.in_ok-bytes.ensures.judged) refused)
@@ -132,7 +133,7 @@ returns-in_err-report-clause-refused g c =
 pub returns-in_err-report-clause-accepted : goal.returns-in_err-report-clause-accepted
 returns-in_err-report-clause-accepted g c =
     let p = err_from_is_err_and c.from_residual-in_err-report.result c.from_residual-in_err-report.ensures.1 in
-    let reported : RefusesOrder (view.tree c.in_ok-accepted.accepted.tree) c.in_ok-events.events.items c.in_err-report.field-0.0 = rw c.deref-2.ensures.value at c.in_err-report.ensures.refused in
+    let reported : RefusesOrder (view.tree c.in_ok-accepted.accepted.tree) c.in_ok-events.events.items c.in_err-report.field-0.0 = rw c.deref.ensures.value at c.in_err-report.ensures.refused in
     let refused = refuses_order_of (g.O.Read.remaining c.args.order.now) (view.tree c.in_ok-accepted.accepted.tree) c.in_ok-events.events.items c.in_err-report.field-0.0 c.in_ok-events.ensures.bytes reported in
     rw (p.1, p.2) (order_refused (g.R.Read.remaining c.args.text.now) c.in_err-report.field-0.0 refused.0)
 
@@ -144,14 +145,14 @@ returns-in_err-report-clause-text g c =
 pub returns-in_err-report-clause-input : goal.returns-in_err-report-clause-input
 returns-in_err-report-clause-input g c =
     let p = err_from_is_err_and c.from_residual-in_err-report.result c.from_residual-in_err-report.ensures.1 in
-    let reported : RefusesOrder (view.tree c.in_ok-accepted.accepted.tree) c.in_ok-events.events.items c.in_err-report.field-0.0 = rw c.deref-2.ensures.value at c.in_err-report.ensures.refused in
+    let reported : RefusesOrder (view.tree c.in_ok-accepted.accepted.tree) c.in_ok-events.events.items c.in_err-report.field-0.0 = rw c.deref.ensures.value at c.in_err-report.ensures.refused in
     let refused = refuses_order_of (g.O.Read.remaining c.args.order.now) (view.tree c.in_ok-accepted.accepted.tree) c.in_ok-events.events.items c.in_err-report.field-0.0 c.in_ok-events.ensures.bytes reported in
     rw (p.1, p.2) (input_before _ _ (concern c.in_err-report.field-0.0) refused.0 c.in_ok-bytes.ensures.taken)
 
 pub returns-in_err-report-clause-order : goal.returns-in_err-report-clause-order
 returns-in_err-report-clause-order g c =
     let p = err_from_is_err_and c.from_residual-in_err-report.result c.from_residual-in_err-report.ensures.1 in
-    let reported : RefusesOrder (view.tree c.in_ok-accepted.accepted.tree) c.in_ok-events.events.items c.in_err-report.field-0.0 = rw c.deref-2.ensures.value at c.in_err-report.ensures.refused in
+    let reported : RefusesOrder (view.tree c.in_ok-accepted.accepted.tree) c.in_ok-events.events.items c.in_err-report.field-0.0 = rw c.deref.ensures.value at c.in_err-report.ensures.refused in
     let refused = refuses_order_of (g.O.Read.remaining c.args.order.now) (view.tree c.in_ok-accepted.accepted.tree) c.in_ok-events.events.items c.in_err-report.field-0.0 c.in_ok-events.ensures.bytes reported in
     rw (p.1, p.2) (order_at _ _ (concern c.in_err-report.field-0.0) refused.0 c.in_ok-events.ensures.front)
 
@@ -159,23 +160,23 @@ returns-in_err-report-clause-order g c =
 
 pub returns-clause-done : goal.returns-clause-done
 returns-clause-done g c =
-    let made : IsReplayed c.args.replay.now (view.tree c.in_ok-accepted.accepted.tree) c.in_ok-bytes.bytes.items c.in_ok-events.events.items c.in_ok-report.report.items =
-    rw (c.deref.ensures.value, c.deref-2.ensures.value) at c.in_ok-report.ensures.report in
+    let made : IsReplayed c.args.replay.now (view.tree c.in_ok-accepted.accepted.tree) (cut c.in_ok-bytes.bytes.items) c.in_ok-events.events.items c.in_ok-report.report.items =
+    rw c.deref.ensures.value at c.in_ok-report.ensures.report in
     on_ok_weaker c.write_result.result
     (λ written. replay_due c.args.replay.now (g.R.Read.remaining c.args.text.now) (g.S.Read.remaining c.args.input.now) (g.O.Read.remaining c.args.order.now) (view.tree c.in_ok-accepted.accepted.tree)
     c.in_ok-bytes.bytes.items c.in_ok-events.events.items c.in_ok-report.report.items _ c.in_ok-accepted.ensures.text c.in_ok-bytes.ensures.input
     c.in_ok-bytes.ensures.judged c.in_ok-events.ensures.bytes made written)
-    (rw c.deref-3.ensures.value at c.write_result.ensures.whole)
+    (rw c.deref-2.ensures.value at c.write_result.ensures.whole)
 
 pub returns-clause-beginning : goal.returns-clause-beginning
 returns-clause-beginning g c =
-    let made : IsReplayed c.args.replay.now (view.tree c.in_ok-accepted.accepted.tree) c.in_ok-bytes.bytes.items c.in_ok-events.events.items c.in_ok-report.report.items =
-    rw (c.deref.ensures.value, c.deref-2.ensures.value) at c.in_ok-report.ensures.report in
+    let made : IsReplayed c.args.replay.now (view.tree c.in_ok-accepted.accepted.tree) (cut c.in_ok-bytes.bytes.items) c.in_ok-events.events.items c.in_ok-report.report.items =
+    rw c.deref.ensures.value at c.in_ok-report.ensures.report in
     on_err c.write_result.result
     (λ e begun write. replay_due c.args.replay.now (g.R.Read.remaining c.args.text.now) (g.S.Read.remaining c.args.input.now) (g.O.Read.remaining c.args.order.now) (view.tree c.in_ok-accepted.accepted.tree)
     c.in_ok-bytes.bytes.items c.in_ok-events.events.items c.in_ok-report.report.items _ c.in_ok-accepted.ensures.text c.in_ok-bytes.ensures.input
     c.in_ok-bytes.ensures.judged c.in_ok-events.ensures.bytes made begun)
-    (rw c.deref-3.ensures.value at c.write_result.ensures.beginning)
+    (rw c.deref-2.ensures.value at c.write_result.ensures.beginning)
 
 pub returns-clause-accepted : goal.returns-clause-accepted
 returns-clause-accepted g c = if_err c.write_result.result (λ e write. write_refused (g.R.Read.remaining c.args.text.now) e write) c.write_result.ensures.write

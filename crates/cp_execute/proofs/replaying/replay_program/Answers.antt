@@ -12,6 +12,7 @@ use Rattle.cp_program.specs.View as program_view
 use Rattle.cp_model_program.specs.IsProgramFor.{IsProgramFor}
 use Rattle.cp_rounds.specs.Views.{machine_of}
 use Rattle.cp_rounds.proofs.InStates.{process_count_is}
+use Rattle.cp_frontend.specs.Inputs.{inputs_of}
 use Rattle.cp_execute_start.specs.Starts.{setup_of}
 use Rattle.cp_execute.specs.Replayed.{timed}
 use Rattle.cp_execute.proofs.Replays.{replay_calm}
@@ -21,7 +22,7 @@ use Rattle.cp_execute.proofs.replaying.replay_program.Goals as goal
 pub replay_machine-requires-clause-within : goal.replay_machine-requires-clause-within
 replay_machine-requires-clause-within c =
     let t = view.tree c.args.tree.now in
-    let setup = setup_of t c.args.input.now c.args.replay.now.tick.rounds in
+    let setup = setup_of t (inputs_of c.args.inputs.now) c.args.replay.now.tick.rounds in
     let program = program_view.program c.args.program in
     let represents : IsProgramFor program setup = c.requires.program setup refl in
     let machine = c.in_ok-machine.machine in
@@ -35,7 +36,7 @@ returns c =
     (λ bytes done.
     let how = c.args.replay.now in
     let t = view.tree c.args.tree.now in
-    let setup = setup_of t c.args.input.now how.tick.rounds in
+    let setup = setup_of t (inputs_of c.args.inputs.now) how.tick.rounds in
     let machine = c.replay_machine.new.machine in
     let begun : IsIn (machine_of c.in_ok-machine.machine) setup (start setup) = c.in_ok-machine.ensures.state t c.requires.program in
     let represent = lent (globals setup.tree) c.args.tree.now _ c.in_ok-machine.machine machine c.requires.tables c.in_ok-machine.ensures.tables done.1 in

@@ -7,6 +7,7 @@ use Rattle.cp_model.specs.Start.{start}
 use Rattle.cp_model.specs.View as view
 use Rattle.cp_model.proofs.Results.{if_ok}
 use Rattle.cp_rounds.specs.Views.{machine_of}
+use Rattle.cp_frontend.specs.Inputs.{inputs_of}
 use Rattle.cp_execute_start.specs.Starts.{setup_of}
 use Rattle.cp_execute.proofs.Reported.{lent, reported}
 use Rattle.cp_execute.proofs.running.run_program.Goals as goal
@@ -17,7 +18,7 @@ returns-clause-report g c =
     (λ bytes done text program tables.
     let run = c.args.run.now in
     let t = view.tree text in
-    let setup = setup_of t c.args.input.now run.tick.rounds in
+    let setup = setup_of t (inputs_of c.args.inputs.now) run.tick.rounds in
     let machine = c.run_machine.new.machine in
     let begun : IsIn (machine_of c.in_ok-machine.machine) setup (start setup) = c.in_ok-machine.ensures.state t program in
     let represent = lent (globals setup.tree) text _ c.in_ok-machine.machine machine tables c.in_ok-machine.ensures.tables c.run_machine.ensures.text in

@@ -1,6 +1,7 @@
 use Rattle.std.proofs.Common.{inl, inr}
 use Rattle.std.proofs.KnownBytes.{Keeps-refl}
 use Rattle.std.proofs.lemmas.Result.{err_from_is_err_and}
+use Rattle.cp_model.specs.Input.{cut}
 use Rattle.cp_model.specs.View as view
 use Rattle.cp_execute_observe.specs.Outcomes.{IsOutcome}
 use Rattle.cp_frontend.specs.Takings.{concern}
@@ -88,20 +89,20 @@ returns-in_err-outcome-clause-input g c =
 pub returns-in_err-write_result-clause-beginning : goal.returns-in_err-write_result-clause-beginning
 returns-in_err-write_result-clause-beginning g c =
     let p = err_from_is_err_and c.from_residual-in_err-write_result.result c.from_residual-in_err-write_result.ensures.1 in
-    let made : IsOutcome c.args.how.now c.args.servers.now c.args.form (view.tree c.in_ok-accepted.accepted.tree) c.in_ok-bytes.bytes.items c.in_ok-outcome.outcome.verdict c.in_ok-outcome.outcome.bytes.items =
-    rw c.deref.ensures.value at c.in_ok-outcome.ensures.outcome in
+    let made : IsOutcome c.args.how.now c.args.servers.now c.args.form (view.tree c.in_ok-accepted.accepted.tree) (cut c.in_ok-bytes.bytes.items) c.in_ok-outcome.outcome.verdict c.in_ok-outcome.outcome.bytes.items =
+    c.in_ok-outcome.ensures.outcome in
     rw (p.1, p.2) (λ write. (
       c.in_ok-outcome.outcome.verdict,
       outcome_due c.args.how.now c.args.servers.now c.args.form c.in_ok-outcome.outcome.verdict (g.R.Read.remaining c.args.text.now) (g.S.Read.remaining c.args.input.now) (view.tree c.in_ok-accepted.accepted.tree) c.in_ok-bytes.bytes.items
           c.in_ok-outcome.outcome.bytes.items _ c.in_ok-accepted.ensures.text c.in_ok-bytes.ensures.input c.in_ok-bytes.ensures.judged made
-          (rw c.deref-2.ensures.value at c.in_err-write_result.ensures.beginning),
+          (rw c.deref.ensures.value at c.in_err-write_result.ensures.beginning),
     ))
 
 -- ---- the outcome is written
 
 pub returns-clause-done : goal.returns-clause-done
 returns-clause-done g c =
-    let made : IsOutcome c.args.how.now c.args.servers.now c.args.form (view.tree c.in_ok-accepted.accepted.tree) c.in_ok-bytes.bytes.items c.in_ok-outcome.outcome.verdict c.in_ok-outcome.outcome.bytes.items =
-    rw c.deref.ensures.value at c.in_ok-outcome.ensures.outcome in
+    let made : IsOutcome c.args.how.now c.args.servers.now c.args.form (view.tree c.in_ok-accepted.accepted.tree) (cut c.in_ok-bytes.bytes.items) c.in_ok-outcome.outcome.verdict c.in_ok-outcome.outcome.bytes.items =
+    c.in_ok-outcome.ensures.outcome in
     outcome_due c.args.how.now c.args.servers.now c.args.form c.in_ok-outcome.outcome.verdict (g.R.Read.remaining c.args.text.now) (g.S.Read.remaining c.args.input.now) (view.tree c.in_ok-accepted.accepted.tree) c.in_ok-bytes.bytes.items
-    c.in_ok-outcome.outcome.bytes.items _ c.in_ok-accepted.ensures.text c.in_ok-bytes.ensures.input c.in_ok-bytes.ensures.judged made (rw c.deref-2.ensures.value at c.in_ok-write_result.ensures.whole)
+    c.in_ok-outcome.outcome.bytes.items _ c.in_ok-accepted.ensures.text c.in_ok-bytes.ensures.input c.in_ok-bytes.ensures.judged made (rw c.deref.ensures.value at c.in_ok-write_result.ensures.whole)

@@ -1,6 +1,7 @@
 use Rattle.std.proofs.Common.{inl, inr}
 use Rattle.std.proofs.KnownBytes.{Keeps-refl}
 use Rattle.std.proofs.lemmas.Result.{err_from_is_err_and}
+use Rattle.cp_model.specs.Input.{cut}
 use Rattle.cp_model.specs.View as view
 use Rattle.cp_frontend.specs.Takings.{concern}
 use Rattle.cp_frontend.proofs.Faults.{known_text_fault}
@@ -97,8 +98,8 @@ returns-in_err-machine-clause-input g c =
 
 pub returns-clause-done : goal.returns-clause-done
 returns-clause-done g c =
-    let made : IsTraced c.args.how.now (view.tree c.in_ok-accepted.accepted.tree) c.in_ok-bytes.bytes.items c.in_ok-machine.machine =
-    rw c.deref.ensures.value at c.in_ok-machine.ensures.state in
+    let made : IsTraced c.args.how.now (view.tree c.in_ok-accepted.accepted.tree) (cut c.in_ok-bytes.bytes.items) c.in_ok-machine.machine =
+    c.in_ok-machine.ensures.state in
     trace_due c.args.how.now c.in_ok-machine.machine (g.R.Read.remaining c.args.text.now) (g.S.Read.remaining c.args.input.now) (view.tree c.in_ok-accepted.accepted.tree) c.in_ok-bytes.bytes.items
     c.in_ok-accepted.ensures.text c.in_ok-bytes.ensures.input c.in_ok-bytes.ensures.judged made
 

@@ -7,9 +7,9 @@ use Rattle.cp_execute_start.specs.Starts.{setup_of}
 use Rattle.cp_execute_observe.proofs.tracing.trace_machine.Goals as goal
 
 pub returns-clause-state : goal.returns-clause-state
-returns-clause-state g c t input begun =
+returns-clause-state g c t inputs begun =
     let how = c.args.how.now in
-    let setup = setup_of t input how.tick.rounds in
+    let setup = setup_of t inputs how.tick.rounds in
     subst (λ m. IsIn m setup (run setup how.plan.turn.steps how.rounds (start setup))) (sym c.halt.ensures)
     (c.in_ok-trace.ensures.state setup (start setup) begun)
 

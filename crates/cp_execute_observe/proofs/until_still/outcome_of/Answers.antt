@@ -9,14 +9,14 @@ use Rattle.cp_execute_observe.specs.Outcomes.{state_after}
 use Rattle.cp_execute_observe.proofs.until_still.outcome_of.Goals as goal
 
 pub returns-clause-outcome : goal.returns-clause-outcome
-returns-clause-outcome g c t input begun =
+returns-clause-outcome g c t inputs begun =
     let how = c.args.how.now in
-    let setup = setup_of t input how.tick.rounds in
+    let setup = setup_of t inputs how.tick.rounds in
     let none = c.requires.first in
     let n = c.in-Ok._rounds in
     let reported = c.in-Ok.ensures in
     let machine = c.run_until_still.new.machine in
-    let s = state_after how t input n in
+    let s = state_after how t inputs n in
     let I : IsIn (machine_of machine) setup s = reported.state setup (start setup) begun in
     let made = reported.done.rounds in
     let count : machine.rounds ≡ n = omega (arith, made, none) in

@@ -1,6 +1,7 @@
 use Rattle.std.proofs.Common.{inl, inr}
 use Rattle.std.proofs.KnownBytes.{Keeps-refl}
 use Rattle.std.proofs.lemmas.Result.{err_from_is_err_and}
+use Rattle.cp_model.specs.Input.{cut}
 use Rattle.cp_model.specs.View as view
 use Rattle.cp_execute_search.specs.Searches.{IsSearchOf, IsWritten}
 use Rattle.cp_frontend.specs.Takings.{concern}
@@ -88,22 +89,22 @@ returns-in_err-reported-clause-input g c =
 pub returns-in_err-write_result-clause-beginning : goal.returns-in_err-write_result-clause-beginning
 returns-in_err-write_result-clause-beginning g c =
     let p = err_from_is_err_and c.from_residual-in_err-write_result.result c.from_residual-in_err-write_result.ensures.1 in
-    let made : IsSearchOf c.args.servers.now (view.tree c.in_ok-accepted.accepted.tree) c.in_ok-bytes.bytes.items c.in_ok-reported.reported.verdict c.in_ok-reported.reported.findings =
-    rw c.deref.ensures.value at c.in_ok-reported.ensures.search in
+    let made : IsSearchOf c.args.servers.now (view.tree c.in_ok-accepted.accepted.tree) (cut c.in_ok-bytes.bytes.items) c.in_ok-reported.reported.verdict c.in_ok-reported.reported.findings =
+    c.in_ok-reported.ensures.search in
     rw (p.1, p.2) (λ write. (
       c.in_ok-reported.reported.verdict,
       c.in_ok-reported.reported.findings,
       search_due c.args.servers.now c.args.how.form c.in_ok-reported.reported.verdict c.in_ok-reported.reported.findings (g.R.Read.remaining c.args.text.now) (g.S.Read.remaining c.args.input.now) (view.tree c.in_ok-accepted.accepted.tree)
           c.in_ok-bytes.bytes.items c.in_ok-reported.reported.page.items _ c.in_ok-accepted.ensures.text c.in_ok-bytes.ensures.input c.in_ok-bytes.ensures.judged made c.in_ok-reported.ensures.page
-          (rw c.deref-2.ensures.value at c.in_err-write_result.ensures.beginning),
+          (rw c.deref.ensures.value at c.in_err-write_result.ensures.beginning),
     ))
 
 -- ---- the result is written
 
 pub returns-clause-done : goal.returns-clause-done
 returns-clause-done g c =
-    let made : IsSearchOf c.args.servers.now (view.tree c.in_ok-accepted.accepted.tree) c.in_ok-bytes.bytes.items c.in_ok-reported.reported.verdict c.in_ok-reported.reported.findings =
-    rw c.deref.ensures.value at c.in_ok-reported.ensures.search in
+    let made : IsSearchOf c.args.servers.now (view.tree c.in_ok-accepted.accepted.tree) (cut c.in_ok-bytes.bytes.items) c.in_ok-reported.reported.verdict c.in_ok-reported.reported.findings =
+    c.in_ok-reported.ensures.search in
     search_due c.args.servers.now c.args.how.form c.in_ok-reported.reported.verdict c.in_ok-reported.reported.findings (g.R.Read.remaining c.args.text.now) (g.S.Read.remaining c.args.input.now) (view.tree c.in_ok-accepted.accepted.tree)
     c.in_ok-bytes.bytes.items c.in_ok-reported.reported.page.items _ c.in_ok-accepted.ensures.text c.in_ok-bytes.ensures.input c.in_ok-bytes.ensures.judged made c.in_ok-reported.ensures.page
-    (rw c.deref-2.ensures.value at c.in_ok-write_result.ensures.whole)
+    (rw c.deref.ensures.value at c.in_ok-write_result.ensures.whole)

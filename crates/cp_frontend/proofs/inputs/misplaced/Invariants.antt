@@ -1,7 +1,7 @@
 use Rattle.std.proofs.Common.{◌≡◌, ◌++◌, drop, take}
 use Rattle.cp_frontend.specs.Cutting.{front_part}
-use Rattle.cp_frontend.specs.Joining.{misplaced_from}
-use Rattle.cp_frontend.proofs.joining.misplaced.Given as goal
+use Rattle.cp_frontend.specs.Inputs.{misplaced_from}
+use Rattle.cp_frontend.proofs.inputs.misplaced.Given as goal
 
 abbrev pub invariant-loop-at : goal.invariant-loop-at
 invariant-loop-at l = record {
