@@ -10,3 +10,4 @@ pub mod QueuesReported
 pub mod ListedNames
 pub mod LeafCodes
 pub mod Sinks
+pub mod Named

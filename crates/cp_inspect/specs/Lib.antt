@@ -6,3 +6,4 @@ pub mod Statuses
 pub mod Values
 pub mod LeafCodes
 pub mod Sinks
+pub mod Names

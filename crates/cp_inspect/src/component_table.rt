@@ -5,6 +5,7 @@ ghost use Rattle.cp_model.specs.Abstract.{Monitor, Process};
 ghost use Rattle.cp_compile_symbols.specs.Representing.{entry};
 ghost use Rattle.cp_compile_symbols.specs.Variables.{declared_entry};
 ghost use Rattle.cp_inspect.specs.Lists.{Lists};
+ghost use Rattle.cp_inspect.specs.Names.{names_of, number_from, owner_named, process_named};
 
 use crate::listing::components;
 pub use crate::place::Owner;
@@ -26,14 +27,16 @@ pub struct ComponentTable<'t> {
 
 // The number of the component with this name, in any letter case. The first one has the number
 // `first`.
-fn number_of(list: &[Field<'_>], name: &[u8], first: usize) -> Result<Option<u32>, AllocError> {
-    match list
-        .iter()
-        .position(|field| field.name.eq_ignore_ascii_case(name))
-    {
-        Some(at) => Ok(Some(small_number(at.saturating_add(first))?)),
-        None => Ok(None),
+fn number_of(list: &[Field<'_>], name: &[u8], first: usize) -> Result<Option<u32>, AllocError>
+    ensures { IfOk result
+        (λ number. number ≡ number_from first name.now (names_of list.now)) }
+{
+    for (at, field) in list.iter().enumerate() {
+        if field.name.eq_ignore_ascii_case(name) {
+            return Ok(Some(small_number(at.saturating_add(first))?));
+        }
     }
+    Ok(None)
 }
 
 impl<'t> ComponentTable<'t> {
@@ -91,7 +94,10 @@ impl<'t> ComponentTable<'t> {
     /// # Errors
     ///
     /// `AllocError` if its number has more than 32 bits, as none has that fits in memory.
-    pub fn process(&self, name: &[u8]) -> Result<Option<u32>, AllocError> {
+    pub fn process(&self, name: &[u8]) -> Result<Option<u32>, AllocError>
+        ensures { IfOk result
+            (λ number. number ≡ process_named name.now (names_of self.now.processes.items)) }
+    {
         Ok(match number_of(&self.processes, name, 2)? {
             Some(number) => Some(number),
             None if name.eq_ignore_ascii_case(INITIAL) => Some(1),
@@ -99,12 +105,15 @@ impl<'t> ComponentTable<'t> {
         })
     }
 
-    /// The process or the monitor with this name, in any letter case, if there is one.
+    /// The monitor with this name, in any letter case, or else the process, if there is one.
     ///
     /// # Errors
     ///
     /// As for `process`.
-    pub fn owner(&self, name: &[u8]) -> Result<Option<Owner>, AllocError> {
+    pub fn owner(&self, name: &[u8]) -> Result<Option<Owner>, AllocError>
+        ensures { IfOk result (λ owner. owner ≡ owner_named name.now
+            (names_of self.now.monitors.items) (names_of self.now.processes.items)) }
+    {
         if let Some(number) = number_of(&self.monitors, name, 1)? {
             return Ok(Some(Owner::Monitor(number)));
         }
