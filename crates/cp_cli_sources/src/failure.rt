@@ -4,7 +4,7 @@ ghost use Rattle.std.specs.Prelude.{◌≡◌};
 ghost use Rattle.cp_frontend.specs.declared.refusal.Refusal.TheVariants as refusal;
 ghost use Rattle.cp_cli_sources.specs.declared.failure.Failure.TheVariants as failure;
 
-use cp_cli_inputs::named::InputError;
+use cp_cli_inputs::error::InputError;
 use cp_frontend::refusal::{Refusal, exit_of};
 use std::alloc::AllocFailed;
 use std::io;

@@ -3,7 +3,7 @@
 use crate::failure::Failure;
 use crate::opening::{Source, open, open_named};
 use cp_cli::command::{Inputs, NamedInput};
-use cp_cli_inputs::named::{InputOf, read_inputs};
+use cp_cli_inputs::reading::{InputOf, read_inputs};
 use cp_frontend::inputs::ProcessInputs;
 use cp_frontend::sources::{AcceptedText, read_accepted, read_input};
 use std::alloc::Global;

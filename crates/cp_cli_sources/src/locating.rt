@@ -3,7 +3,7 @@
 use crate::failure::Failure;
 use crate::opening::{open_named, read_bytes};
 use cp_cli::command::STANDARD_INPUT;
-use cp_cli_inputs::named::InputError;
+use cp_cli_inputs::error::InputError;
 use cp_frontend::refusal::Refusal;
 use cp_output::position::Position;
 use std::alloc::Global;
