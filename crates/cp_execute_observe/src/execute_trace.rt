@@ -45,7 +45,7 @@ pub fn execute_trace<H: Threads + Wait + Sync, R: Read, S: Read, W: Write, G: Tu
     ensures done { IfOk result
         (λ machine. Traces how.now machine (R.remaining text.old) (S.remaining input.old)) }
     ensures reported { OnOk result
-        (WritesTrace how.now.form (W.contents out.old) (W.contents out.new)) }
+        (WritesTrace how.now (W.contents out.old) (W.contents out.new)) }
     ensures written { Extends (W.contents out.old) (W.contents out.new) }
     ensures unwritten { IfErr result
         (λ e. (IsMemoryOrWrite e → ⊥) → Keeps (W.contents out.old) (W.contents out.new)) }

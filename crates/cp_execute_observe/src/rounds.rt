@@ -3,8 +3,8 @@
 ghost use Rattle.std.specs.Prelude.{◌≡◌, ◌<◌, ◌+◌, ◌-◌, ◌^◌, IfErr, IfOk, OnOk};
 ghost use Rattle.cp_rounds.specs.InStates.{MakesRounds};
 ghost use Rattle.cp_trace.specs.Reporting.{Adds};
-ghost use Rattle.cp_trace.specs.Tracers.{IsPart, form_of};
-ghost use Rattle.cp_execute_observe.specs.Writing.{Extends, IsMemoryOrWrite, Moves, WritesTrace};
+ghost use Rattle.cp_trace.specs.Tracers.{ReportsRound, form_of};
+ghost use Rattle.cp_execute_observe.specs.Writing.{Extends, IsMemoryOrWrite, Moves, WritesRounds, WritesTrace};
 ghost use Rattle.cp_frontend.specs.declared.refusal.Refusal.TheVariants as refusal;
 
 use cp_base_config::plan::Plan;
@@ -70,7 +70,8 @@ fn trace_round<'t, H: Threads + Wait + Sync, G: TurnGate>(
         (MakesRounds plan.now.turn.steps 1 machine.old machine.new) }
     ensures count { OnOk result (machine.new.rounds ≡ machine.old.rounds + 1) }
     ensures reported { OnOk result
-        (Adds (IsPart (form_of tracer.old)) buffer.old.items buffer.new.items) }
+        (Adds (ReportsRound (form_of tracer.old) machine.new.rounds)
+        buffer.old.items buffer.new.items) }
     ensures form { OnOk result (form_of tracer.new ≡ form_of tracer.old) }
 {
     machine.round(rt, plan, gate)?;
@@ -109,7 +110,8 @@ fn trace_rounds<'t, H: Threads + Wait + Sync, W: Write, G: TurnGate>(
     ensures state { OnOk result
         (MakesRounds plan.now.turn.steps rounds machine.old machine.new) }
     ensures reported { OnOk result
-        (WritesTrace (form_of tracer.old) (W.contents out.old) (W.contents out.new)) }
+        (WritesRounds (form_of tracer.old) machine.old.rounds rounds
+        (W.contents out.old) (W.contents out.new)) }
     ensures written { Extends (W.contents out.old) (W.contents out.new) }
     ensures fault { IfErr result IsMemoryOrWrite }
 {
@@ -145,7 +147,7 @@ pub(crate) fn trace<'t, H: Threads + Wait + Sync, W: Write, G: TurnGate>(
     ensures state { OnOk result
         (MakesRounds how.now.plan.turn.steps how.now.rounds machine.old machine.new) }
     ensures reported { OnOk result
-        (WritesTrace how.now.form (W.contents out.old) (W.contents out.new)) }
+        (WritesTrace how.now (W.contents out.old) (W.contents out.new)) }
     ensures written { Extends (W.contents out.old) (W.contents out.new) }
     ensures fault { IfErr result IsMemoryOrWrite }
 {

@@ -38,7 +38,7 @@ fn trace_machine<'t, H: Threads + Wait + Sync, W: Write, G: TurnGate>(
     requires first { machine.rounds ≡ 0 }
     ensures state { IfOk result (IsTracedFrom how.now machine.entry) }
     ensures reported { OnOk result
-        (WritesTrace how.now.form (W.contents out.old) (W.contents out.new)) }
+        (WritesTrace how.now (W.contents out.old) (W.contents out.new)) }
     ensures written { Extends (W.contents out.old) (W.contents out.new) }
     ensures fault { IfErr result IsMemoryOrWrite }
 {
@@ -68,7 +68,7 @@ pub fn machine_after_trace<H: Threads + Wait + Sync, W: Write, G: TurnGate>(
         (λ machine. IsTraced how.now (view.tree accepted.now.tree) (inputs_of inputs.now)
         machine) }
     ensures reported { OnOk result
-        (WritesTrace how.now.form (W.contents out.old) (W.contents out.new)) }
+        (WritesTrace how.now (W.contents out.old) (W.contents out.new)) }
     ensures written { Extends (W.contents out.old) (W.contents out.new) }
     ensures fault { IfErr result IsMemoryOrWrite }
 {

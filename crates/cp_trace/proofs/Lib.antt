@@ -1,2 +1,1 @@
 pub mod ObjectLines
-pub mod Parts

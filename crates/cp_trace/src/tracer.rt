@@ -25,7 +25,7 @@ pub enum Tracer<'t> {
 }
 
 impl<'t> Tracer<'t> {
-    ghost use Rattle.cp_trace.specs.Tracers.{IsPart, IsTrace, ReportsRound, form_of};
+    ghost use Rattle.cp_trace.specs.Tracers.{Begins, Ends, ReportsRound, form_of};
 
     /// A tracer that follows a machine from what it is now, and reports it in this form. The
     /// machine runs the program of the topic's text, and has made the rounds before those that are
@@ -59,7 +59,7 @@ impl<'t> Tracer<'t> {
     ///
     /// `AllocError` if memory runs out.
     pub fn begin(&self, out: &mut Vec<u8>) -> Result<(), AllocError>
-        ensures { OnOk result (Adds (IsPart (form_of self.now)) out.old.items out.new.items) }
+        ensures { OnOk result (Adds (Begins (form_of self.now)) out.old.items out.new.items) }
     {
         match self {
             Tracer::Svg(picture) => picture.begin(out),
@@ -100,7 +100,7 @@ impl<'t> Tracer<'t> {
     ///
     /// `AllocError` if memory runs out.
     pub fn finish(&self, out: &mut Vec<u8>) -> Result<(), AllocError>
-        ensures { OnOk result (Adds (IsTrace (form_of self.now)) out.old.items out.new.items) }
+        ensures { OnOk result (Adds (Ends (form_of self.now)) out.old.items out.new.items) }
     {
         match self {
             Tracer::Lines(_) | Tracer::Json(_) => Ok(()),

@@ -5,7 +5,7 @@ use Rattle.cp_model.proofs.Results.{from_ok, if_ok}
 use Rattle.cp_rounds.specs.InStates.{MakesRounds}
 use Rattle.cp_rounds.specs.Views.{machine_of, processes_of}
 use Rattle.cp_base_config.specs.declared.trace.TraceForm.{TraceForm}
-use Rattle.cp_execute_observe.specs.Writing.{WritesTrace}
+use Rattle.cp_execute_observe.specs.Writing.{WritesRounds, unreported}
 use Rattle.cp_execute_observe.proofs.RoundsMade.{more_made, rounds_count}
 use Rattle.cp_execute_observe.proofs.rounds.trace.Goals as goal
 
@@ -34,6 +34,15 @@ returns-clause-state g c =
 
 pub returns-clause-reported : goal.returns-clause-reported
 returns-clause-reported g c =
+    let how = c.args.how.now in
+    let n = c.min-unreported.result in
     let out = g.W.Write.contents in
-    subst (λ (f : TraceForm). OnOk c.trace_rounds.result (WritesTrace f (out c.args.out.now) (out c.trace_rounds.new.out)))
-    c.in_ok-tracer.ensures c.trace_rounds.ensures.reported
+    let given : n ≡ unreported how = Prim.omega (arith, c.min-unreported.ensures) in
+    let made = from_ok c.run.result (sym c.if-is_err.ensures.value) c.run.ensures.done in
+    let none = c.requires.first in
+    let count = ap (λ (m : plain.Machine). m.rounds) made ∙ rounds_count how.plan.turn.steps (numbers_from 1 (processes_of c.args.machine.now)) n (machine_of c.args.machine.now) in
+    let first : c.run.new.self.rounds ≡ n = Prim.omega (arith, count, none) in
+    let written = subst (λ (f : TraceForm). OnOk c.trace_rounds.result (WritesRounds f c.run.new.self.rounds (how.rounds - n) (out c.args.out.now) (out c.trace_rounds.new.out)))
+    c.in_ok-tracer.ensures c.trace_rounds.ensures.reported in
+    let numbered = subst (λ (k : ℕ). OnOk c.trace_rounds.result (WritesRounds how.form k (how.rounds - n) (out c.args.out.now) (out c.trace_rounds.new.out))) first written in
+    subst (λ (k : ℕ). OnOk c.trace_rounds.result (WritesRounds how.form k (how.rounds - k) (out c.args.out.now) (out c.trace_rounds.new.out))) given numbered

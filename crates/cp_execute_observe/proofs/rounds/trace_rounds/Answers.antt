@@ -1,9 +1,10 @@
-use Rattle.std.proofs.Common.{◌≡◌, ◌∙◌, ℕ, arith, refl, subst, take}
+use Rattle.std.proofs.Common.{◌≡◌, ◌∙◌, ◌+◌, suc, ℕ, arith, refl, subst, take}
 use Rattle.cp_rounds.specs.InStates.{MakesRounds}
 use Rattle.cp_trace.specs.Reporting.{Adds}
-use Rattle.cp_trace.specs.Tracers.{IsPart, IsTrace, form_of}
+use Rattle.cp_trace.specs.Tracers.{Ends, ReportsRound, form_of}
 use Rattle.cp_base_config.specs.declared.trace.TraceForm.{TraceForm}
-use Rattle.cp_execute_observe.proofs.Reported.{added, begun, finished, moved}
+use Rattle.cp_execute_observe.specs.Writing.{WritesRounds}
+use Rattle.cp_execute_observe.proofs.Reported.{WritesPart, added, begun, finished, moved}
 use Rattle.cp_execute_observe.proofs.RoundsMade.{extends_more, extends_nothing, more_made, none_made}
 use Rattle.cp_execute_observe.proofs.rounds.trace_rounds.Goals as goal
 
@@ -15,7 +16,7 @@ loop-round-init g c =
       made = none_made c.args.plan.now.turn.steps c.args.machine.now;
       count = Prim.omega arith;
       form = refl;
-      reported = begun (form_of c.args.tracer.now) old c.begin.new.out.items first;
+      reported = begun (form_of c.args.tracer.now) c.args.machine.now.rounds old c.begin.new.out.items first;
       written = extends_nothing old;
     }
 
@@ -31,13 +32,19 @@ loop-round-preserved g c =
     let wrote = c.in_ok-write_if_long.ensures in
     let count = before.count in
     let one = round.count in
-    let more = subst (λ (k : TraceForm). Adds (IsPart k) c.loop-round.buffer.items c.trace_round.new.buffer.items) before.form round.reported in
-    let reported = added f old new c.loop-round.buffer.items c.trace_round.new.buffer.items before.reported more in
+    let done = c.args.machine.now.rounds in
+    let k = c.loop-round._round in
+    let next : suc k ≡ k + 1 = Prim.omega arith in
+    let number : c.trace_round.new.machine.rounds ≡ done + suc k = Prim.omega (arith, count, one) in
+    let formed = subst (λ (x : TraceForm). Adds (ReportsRound x c.trace_round.new.machine.rounds) c.loop-round.buffer.items c.trace_round.new.buffer.items) before.form round.reported in
+    let more = subst (λ (n : ℕ). Adds (ReportsRound f n) c.loop-round.buffer.items c.trace_round.new.buffer.items) number formed in
+    let reported = added f done k old new c.loop-round.buffer.items c.trace_round.new.buffer.items before.reported more in
     record {
       made = more_made t c.loop-round._round 1 c.args.machine.now c.loop-round.machine c.trace_round.new.machine before.made round.state;
       count = Prim.omega (arith, count, one);
       form = round.form ∙ before.form;
-      reported = moved f old new newer c.trace_round.new.buffer.items c.write_if_long.new.buffer.items reported wrote.whole;
+      reported = subst (λ (n : ℕ). WritesPart f done n old newer c.write_if_long.new.buffer.items) next
+          (moved f done (suc k) old new newer c.trace_round.new.buffer.items c.write_if_long.new.buffer.items reported wrote.whole);
       written = extends_more old new newer before.written wrote.written;
     }
 
@@ -64,9 +71,11 @@ returns-clause-reported g c =
     let new = g.W.Write.contents c.loop-round.out in
     let newer = g.W.Write.contents c.write_result.new.out in
     let before = c.loop-round.invariant in
-    let last = subst (λ (k : TraceForm). Adds (IsTrace k) c.loop-round.buffer.items c.finish.new.out.items) before.form c.in_ok-finish.ensures in
+    let last = subst (λ (k : TraceForm). Adds (Ends k) c.loop-round.buffer.items c.finish.new.out.items) before.form c.in_ok-finish.ensures in
     let whole = rw c.deref.ensures.value at c.in_ok-write_result.ensures.whole in
-    finished f old new newer c.loop-round.buffer.items c.finish.new.out.items before.reported last whole
+    let all : c.loop-round._round ≡ c.args.rounds = Prim.omega arith in
+    subst (λ (k : ℕ). WritesRounds f c.args.machine.now.rounds k old newer) all
+    (finished f c.args.machine.now.rounds c.loop-round._round old new newer c.loop-round.buffer.items c.finish.new.out.items before.reported last whole)
 
 pub returns-clause-written : goal.returns-clause-written
 returns-clause-written g c =

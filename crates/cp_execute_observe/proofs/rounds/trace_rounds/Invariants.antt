@@ -11,6 +11,6 @@ invariant-loop-round g l = record {
   made : MakesRounds l.plan.turn.steps l._round l.fn.machine l.machine;
   count : l.machine.rounds ≡ l.fn.machine.rounds + l._round;
   form : form_of l.tracer ≡ form_of l.fn.tracer;
-  reported : WritesPart (form_of l.fn.tracer) (g.W.Write.contents l.fn.out) (g.W.Write.contents l.out) l.buffer.items;
+  reported : WritesPart (form_of l.fn.tracer) l.fn.machine.rounds l._round (g.W.Write.contents l.fn.out) (g.W.Write.contents l.out) l.buffer.items;
   written : Extends (g.W.Write.contents l.fn.out) (g.W.Write.contents l.out);
 }
