@@ -14,7 +14,7 @@ returns-clause-processes c =
     let variables = declarations (globals t) t.initial.variables in
     let represent = c.in_ok-tables.ensures in
     if_ok c.of.result
-    (λ table lists. listed_names c.in_ok-tables.tables.value.types table.processes.items (filter (λ v. is_component_of Process v.1.type) variables) (lists variables represent.initial.variables))
+    (λ table lists. listed_names _ table.processes.items (filter (λ v. is_component_of Process v.1.type) variables) (lists variables (rw c.deref.ensures represent.initial.variables)))
     c.of.ensures.processes
 
 pub returns-clause-monitors : goal.returns-clause-monitors
@@ -23,5 +23,5 @@ returns-clause-monitors c =
     let variables = declarations (globals t) t.initial.variables in
     let represent = c.in_ok-tables.ensures in
     if_ok c.of.result
-    (λ table lists. listed_names c.in_ok-tables.tables.value.types table.monitors.items (filter (λ v. is_component_of Monitor v.1.type) variables) (lists variables represent.initial.variables))
+    (λ table lists. listed_names _ table.monitors.items (filter (λ v. is_component_of Monitor v.1.type) variables) (lists variables (rw c.deref.ensures represent.initial.variables)))
     c.of.ensures.monitors
