@@ -18,17 +18,22 @@ TURN = 10_000
 # In round 1 processes are started, so one less are turns of their own.
 FEWER, MORE = 6, 26
 ROUNDS_OF_BUFFER = 51, 551
-GOAL_OF_LOOP = 70
+GOAL_OF_LOOP = 74
 GOAL_OF_RATIO = 0.8
+GOAL_OF_VARIABLES = 0.7
 GOAL_OF_MONITORS = 0.9
 GOAL_AT_REST = 60
 # What each text does in private steps.
 BESIDE_PLAIN = {
     'sorting': 'fills an array of 100 integers and sorts it, by a routine with a `var` parameter',
     'records': 'fills an array of 60 records and sorts it, by routines with `var` parameters',
+    'matrices': 'multiplies matrices whose elements are matrices',
     'nested': 'moves points in arrays in records in an array, and calls a class that has a class',
     'calls': 'calls functions in expressions, five deep',
 }
+
+# Those that show what parts of variables cost.
+OF_VARIABLES = {'records', 'matrices'}
 
 # By hand from the texts. A worker of classes.cp makes one round of its cycle in each round: `cycle`, `for` with 50 times 7 steps for two calls and
 # 50 that count, then 3 for the tally, 4 in each monitor, and 3 to restart the generator.
@@ -36,6 +41,9 @@ WORKERS, STEPS_OF_WORKER = 16, 416
 PROCESSES_OF_BUFFER = 17
 # An item of buffer.cp takes nine steps to be put and ten to be taken; who waits makes three steps more, and so does who resumes it.
 STEPS_OF_ITEM, STEPS_OF_WAIT = 19, 6
+# A line of buffers.cp takes 32 steps to be made and put into the first buffer, 27 to be taken from it and changed, and 31 to be put into the second one,
+# taken from it and added up.
+STEPS_OF_LINES = 59, 31
 
 
 def run_text(text, rounds, turn=TURN):
@@ -81,7 +89,8 @@ def row(text, what, taken, plain, steps, goal):
 def row_beside_plain(plain, text, what):
     """Instructions a step of a text with one process, and of the plain program."""
     taken, *reports = measure(text)
-    return row(text, what, taken, measure_plain(plain, text, reports), TURN * (MORE - FEWER), GOAL_OF_RATIO)
+    goal = GOAL_OF_VARIABLES if text in OF_VARIABLES else GOAL_OF_RATIO
+    return row(text, what, taken, measure_plain(plain, text, reports), TURN * (MORE - FEWER), goal)
 
 
 def classes_row(plain):
@@ -104,11 +113,22 @@ def monitors_row(plain):
     return row('buffer', what, taken, measure_plain(plain, 'buffer', reports, fewer, more), steps, GOAL_OF_MONITORS)
 
 
+def lines_row(plain):
+    fewer, more = ROUNDS_OF_BUFFER
+    taken, *reports = measure('buffers', fewer, more)
+    # Each buffer has these variables, and the first one comes first.
+    first, second = ([[value for path, value in found_variables(report) if path == name] for name in ('taken_lines', 'sender_waits', 'receiver_waits')] for report in reports)
+    lines, *waits = [[new - old for old, new in zip(*values)] for values in zip(first, second)]
+    steps = sum(count * each for count, each in zip(lines, STEPS_OF_LINES)) + STEPS_OF_WAIT * sum(map(sum, waits))
+    what = 'two monitors with buffers of lines and queues, between 4 producers, 4 copiers and 4 consumers'
+    return row('buffers', what, taken, measure_plain(plain, 'buffers', reports, fewer, more), steps, GOAL_OF_VARIABLES)
+
+
 def measure_steps():
     with tempfile.TemporaryDirectory() as folder:
         plain = pathlib.Path(folder) / 'plain'
         subprocess.run(['rustc', '-O', '--edition', '2021', '-o', plain, PLAIN], check=True)
-        rows = [loop_row(), *(row_beside_plain(plain, text, what) for text, what in BESIDE_PLAIN.items()), classes_row(plain), monitors_row(plain)]
+        rows = [loop_row(), *(row_beside_plain(plain, text, what) for text, what in BESIDE_PLAIN.items()), classes_row(plain), monitors_row(plain), lines_row(plain)]
     show('steps', ['Text', 'What it does', 'cpm', 'Plain Rust', 'Ratio', 'Goal'], rows)
 
 
