@@ -158,6 +158,15 @@ def try_progress_of_search():
     expect('no progress of a short search', run(['search', ROOT / 'docs' / 'tutorial' / 'slot.cp', '--progress'])[2], b'')
 
 
+def try_workers_of_search():
+    """A search finds the same with any number of workers. Each of these programs has enough states for several threads."""
+    for text in ('philosophers.cp', 'readers.cp', 'buffer.cp'):
+        for form in ([], ['--json'], ['--states', '500']):
+            alone = run(['search', text, '--workers', '1', *form])
+            for workers in ('2', '4', '64'):
+                expect(f'search {text} by {workers} workers {form}', run(['search', text, '--workers', workers, *form]), alone)
+
+
 def try_picture():
     picture = (ROOT / 'docs' / 'philosophers.svg').read_bytes()
     expect('a picture', run(['trace', 'philosophers.cp', '--rounds', '40', '--turn', '4', '--svg']), (0, picture, b''))
@@ -175,7 +184,7 @@ def main():
                  ('faults', 9, try_faults), ('deadlocks', 5, try_deadlocks), ('searches', 66, try_searches), ('worked texts', 500, try_worked, cases), ('beginnings of a text', 400, try_beginnings, resumed['text']),
                  ('lawful orders', 190, try_lawful_orders, resumed['text'], resumed['answer'].encode())]
         counts = {what: (least, pool.submit(*call)) for what, least, *call in tries}
-        others = [pool.submit(*call) for call in ((try_counters, PLANS), (try_squarers, PLANS), (try_progress,), (try_progress_of_search,), (try_long_chain,), (try_picture,), (try_terminal,))]
+        others = [pool.submit(*call) for call in ((try_counters, PLANS), (try_squarers, PLANS), (try_progress,), (try_progress_of_search,), (try_workers_of_search,), (try_long_chain,), (try_picture,), (try_terminal,))]
         for what, (least, count) in counts.items():
             expect_at_least(what, count.result(), least)
         for other in [refused, *others]:

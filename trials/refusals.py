@@ -26,6 +26,7 @@ LEAST_OF_NAMED = {'ALLOCATION': 380, 'THREAD': 1, 'READ': 350, 'WRITE': 80}
 LEAST_OF_EXPLANATION = {'ALLOCATION': 150, 'THREAD': 0, 'READ': 190, 'WRITE': 385}
 LEAST_AT_ONCE = 470
 LEAST_OF_SAVED = 150
+LEAST_OF_SEARCHED = 6
 LEAST_OF_TRACE = {'READ': 300, 'WRITE': 255}
 
 # The tests of cp_test_rounds that look at a machine after a refusal, and the fewest times that they have to see one.
@@ -158,6 +159,20 @@ def refuse_saving(refusing):
             expect(f'a schedule of a report that isn\'t written, {number}', saved.exists(), False)
 
 
+def refuse_threads_of_search(refusing, settings):
+    """Refuses the thread starts of a search in turn. The calling thread does what the thread would have done, so the answer stays the same.
+
+    Returns how many were refused.
+    """
+    words = ['search', 'philosophers.cp', '--workers', '4']
+    due = run(words)
+    for number in range(1, 10_000):
+        found, refused, _ = refusing.run(words, REFUSE_THREAD=number, **settings)
+        expect(f'thread start {number} of a search {settings}', found, due)
+        if not refused:
+            return number - 1
+
+
 def told(what, counts):
     return (f'of {what} {counts["ALLOCATION"]} allocations, {counts["THREAD"]} thread starts, {counts["READ"]} reads '
             f'and {counts["WRITE"]} writes')
@@ -194,12 +209,14 @@ def refuse_in_turn(resumed, counters):
         at_once = refusals.begin_kinds(['run', counting, '--rounds', '40', '--turn', '2'], kinds=['ALLOCATION'])
         traced = refusals.begin_kinds(['trace', 'squarers.cp', '--rounds', '3', '--turn', '4'], kinds=LEAST_OF_TRACE)
         waves = [refusals.begin(refuse_each, 'THREAD', ['run', 'squarers.cp', '--rounds', '5', '--workers', '4', '--wave', wave], 0) for wave in '12']
+        searched = [refusals.begin(refuse_threads_of_search, settings) for settings in ({}, {'FROM_THEN_ON': 1})]
         saving = refusals.begin(refuse_saving)
         tests = [refusals.begin(refuse_rounds, test) for test in TESTS]
         tried = [told(what, counts_of(what, counts, least)) for what, least, counts in begun]
         counts_of('rounds made at once', at_once, {'ALLOCATION': LEAST_AT_ONCE})
         counts_of('a trace', traced, LEAST_OF_TRACE)
         expect_at_least('thread starts of 4 workers', sum(wave.result() for wave in waves), 3)
+        expect_at_least('thread starts of a search', sum(search.result() for search in searched), LEAST_OF_SEARCHED)
         expect_at_least('writes of a saved schedule', saving.result(), LEAST_OF_SAVED)
         met = sum(test.result() for test in tests)
         for refused in refusals.begun:

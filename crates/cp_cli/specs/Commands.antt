@@ -10,6 +10,7 @@ use Rattle.cp_cli.specs.declared.command.CommandError.TheVariants as error
 use Rattle.cp_cli.specs.declared.command.Command.{Command}
 use Rattle.cp_cli.specs.declared.command.Command.TheVariants as command
 use Rattle.cp_cli.specs.declared.command.Inputs.TheVariants as inputs
+use Rattle.cp_base_config.specs.declared.limits.TheConstants.{MAX_WORKERS}
 use Rattle.cp_base_config.specs.declared.run.Replay.{Replay}
 use Rattle.cp_base_config.specs.declared.run.Run.{Run}
 
@@ -24,7 +25,7 @@ abbrev pub HasReplay : ℕ → ℕ → Bool → Replay → Type 0
 HasReplay turn tick chains replay = (replay.turn.steps ≡ turn) × (replay.tick.rounds ≡ tick) × (replay.chains ≡ chains)
 
 -- A run has at most so many rounds, and so have one until nothing can move and one that is traced. A
--- search has limits within their ranges.
+-- search has limits and workers within their ranges.
 abbrev pub IsInRange : Command → Type 0
 IsInRange command.Version = Unit {0}
 IsInRange (command.Completions shell) = Unit {0}
@@ -34,8 +35,8 @@ IsInRange (command.ExplainRule page) = Unit {0}
 IsInRange (command.Run file run input progress) = run.rounds ≤ MAX_ROUNDS
 IsInRange (command.Outcome file how servers shown input progress) = how.limit ≤ MAX_ROUNDS
 IsInRange (command.Trace file how only input progress) = how.rounds ≤ MAX_ROUNDS
-IsInRange (command.Search file how servers save input progress) =
-    (1 ≤ how.states) × (how.states ≤ MAX_OPTION_NUMBER) × (1 ≤ how.memory) × (how.memory ≤ MAX_ROUNDS)
+IsInRange (command.Search file how workers servers save input progress) =
+    (1 ≤ how.states) × (how.states ≤ MAX_OPTION_NUMBER) × (1 ≤ how.memory) × (how.memory ≤ MAX_ROUNDS) × (1 ≤ workers) × (workers ≤ MAX_WORKERS)
 IsInRange (command.Replay file order replay input) = Unit {0}
 
 -- The command if there are no words after the program's name.
@@ -48,7 +49,7 @@ IsWithoutWords (command.ExplainRule page) = ⊥
 IsWithoutWords (command.Run file run input progress) = (file ≡ None) × Has ROUNDS TURN WORKERS CHUNK WAVE TICK false run × (input ≡ inputs.Empty) × (progress ≡ false)
 IsWithoutWords (command.Outcome file how servers shown input progress) = ⊥
 IsWithoutWords (command.Trace file how only input progress) = ⊥
-IsWithoutWords (command.Search file how servers save input progress) = ⊥
+IsWithoutWords (command.Search file how workers servers save input progress) = ⊥
 IsWithoutWords (command.Replay file order replay input) = ⊥
 
 -- The kind of clap's error shows whether memory ran out.

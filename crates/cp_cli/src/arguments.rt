@@ -182,6 +182,13 @@ pub(crate) const MEMORY: Argument = Argument {
     without: &[],
 };
 
+pub(crate) const SEARCH_WORKERS: Argument = Argument {
+    name: "workers",
+    form: Form::Value("N"),
+    about: "threads that search, 1 to 64 (default 2)",
+    without: &[],
+};
+
 pub(crate) const SAVE: Argument = Argument {
     name: "save",
     form: Form::Value("NAME"),

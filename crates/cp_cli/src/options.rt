@@ -94,6 +94,13 @@ pub(crate) fn count<'a>(
     }
 }
 
+/// How many workers there are.
+pub(crate) fn read_workers<'a>(matches: &ArgMatches<'a>) -> Result<u32, Misuse<'a>>
+    ensures { IfOk result (λ n. (1 ≤ n) × (n ≤ MAX_WORKERS)) }
+{
+    count(matches, "workers", 1, MAX_WORKERS, defaults::WORKERS)
+}
+
 /// The run of so many rounds with the numbers of the other options.
 pub(crate) fn read_run<'a>(
     matches: &ArgMatches<'a>,
@@ -103,7 +110,7 @@ pub(crate) fn read_run<'a>(
     ensures { IfOk result (λ run. run.rounds ≡ rounds) }
 {
     let turn = count(matches, "turn", 1, MAX_TURN_STEPS, defaults::TURN)?;
-    let workers = count(matches, "workers", 1, MAX_WORKERS, defaults::WORKERS)?;
+    let workers = read_workers(matches)?;
     let chunk = count(matches, "chunk", 1, MAX_CHUNK_PROCESSES, defaults::CHUNK)?;
     let wave = count(matches, "wave", 1, MAX_CHUNK_PROCESSES, defaults::WAVE)?;
     let tick = count(matches, "tick", 1, MAX_TICK_ROUNDS, defaults::TICK)?;

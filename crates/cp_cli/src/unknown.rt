@@ -11,7 +11,7 @@ const ROUNDS: &str = "--rounds sets how many rounds are run";
 const ALL: &str = "explain --all reports all violations";
 
 // Options that a command doesn't have, and what to write instead.
-const MEANT: [(&str, &str, &str); 17] = [
+const MEANT: [(&str, &str, &str); 16] = [
     (
         "outcome",
         "rounds",
@@ -39,7 +39,6 @@ const MEANT: [(&str, &str, &str); 17] = [
         "--states sets the largest number of states",
     ),
     ("search", "turn", "a search allows turns of any length"),
-    ("search", "workers", "a search has no workers"),
     (
         "run",
         "only",

@@ -19,6 +19,7 @@ use cp_outcome_schedule::findings::Findings;
 use cp_search::search::Watch;
 use std::alloc::Global;
 use std::io::{Read, Write};
+use std::thread::Threads;
 
 /// What a search has found, and the verdict on it.
 #[derive(Drop)]
@@ -27,8 +28,8 @@ pub struct Searched {
     pub findings: Findings,
 }
 
-/// Searches all schedules of the text of one reader with the input of another, writes what was found
-/// in its form, and returns it. Each schedule that is shown was replayed before. The servers, by
+/// Searches all schedules of the text of one reader with the input of another, by so many threads,
+/// writes what was found in its form, and returns it. Each schedule that is shown was replayed before. The servers, by
 /// their numbers, may wait forever.
 ///
 /// # Errors
@@ -37,12 +38,14 @@ pub struct Searched {
 /// After I2 a prefix of the result has been written, and after any other refusal nothing. Each
 /// reader is read to its end or through byte 1,048,577, and no further. The input isn't read if the
 /// text is refused.
-pub fn execute_search<R: Read, S: Read, W: Write, V: Watch>(
+pub fn execute_search<H: Threads + Sync, R: Read, S: Read, W: Write, V: Watch>(
+    rt: &H,
     alloc: Global,
     text: &mut R,
     input: &mut S,
     servers: &[u32],
     how: Searching,
+    workers: u32,
     watch: &V,
     out: &mut W,
 ) -> Result<Searched, Refusal>
@@ -66,7 +69,7 @@ pub fn execute_search<R: Read, S: Read, W: Write, V: Watch>(
     let accepted = read_accepted(alloc, text)?;
     let bytes = read_input(alloc, input)?;
     let inputs = ProcessInputs::Joined(bytes);
-    let reported = search_text(alloc, &accepted, &inputs, servers, how, watch)?;
+    let reported = search_text(rt, alloc, &accepted, &inputs, servers, how, workers, watch)?;
     write_result(out, &reported.page)?;
     let Reported {
         verdict,

@@ -26,6 +26,7 @@ use cp_search::notes::Stop;
 use cp_search::search::Watch;
 use cp_search_schedule::recording::Recorded;
 use std::alloc::{AllocError, Global};
+use std::thread::Threads;
 
 /// What a search has found, the verdict on it, and the text that reports both.
 #[derive(Drop)]
@@ -122,13 +123,15 @@ fn verdict_of(findings: &Findings) -> SearchVerdict
 }
 
 // Searches the program of a text.
-fn search_compiled<V: Watch>(
+fn search_compiled<R: Threads + Sync, V: Watch>(
+    rt: &R,
     alloc: Global,
     text: &AcceptedText,
     compiled: &CompiledText<'_>,
     inputs: &ProcessInputs,
     servers: &[u32],
     how: Searching,
+    workers: u32,
     watch: &V,
 ) -> Result<Reported, AllocError>
     requires accepted { Accepted (view.tree text.now.tree) }
@@ -137,7 +140,16 @@ fn search_compiled<V: Watch>(
         (inputs_of inputs.now) reported.verdict reported.findings) }
     ensures page { IfOk result (λ reported. IsWritten how.form reported.page.items) }
 {
-    let seen = see(alloc, &compiled.program, inputs, servers, how, watch)?;
+    let seen = see(
+        rt,
+        alloc,
+        &compiled.program,
+        inputs,
+        servers,
+        how,
+        workers,
+        watch,
+    )?;
     let findings = findings_of(alloc, text, inputs, servers, seen)?;
     let verdict = verdict_of(&findings);
     let subject = Subject {
@@ -155,18 +167,21 @@ fn search_compiled<V: Watch>(
     })
 }
 
-/// Searches the program of an accepted text, whose processes read these inputs. The servers, by
-/// their numbers, may wait forever.
+/// Searches the program of an accepted text, whose processes read these inputs, by so many threads.
+/// What it finds doesn't depend on how many there are. The servers, by their numbers, may wait
+/// forever.
 ///
 /// # Errors
 ///
 /// M if memory runs out.
-pub fn search_text<V: Watch>(
+pub fn search_text<R: Threads + Sync, V: Watch>(
+    rt: &R,
     alloc: Global,
     text: &AcceptedText,
     inputs: &ProcessInputs,
     servers: &[u32],
     how: Searching,
+    workers: u32,
     watch: &V,
 ) -> Result<Reported, Refusal>
     requires accepted { Accepted (view.tree text.now.tree) }
@@ -176,6 +191,8 @@ pub fn search_text<V: Watch>(
     ensures memory { IfErr result (λ e. e ≡ refusal.Memory) }
 {
     let compiled = compile_accepted(alloc, text.key, &text.tree)?;
-    let reported = search_compiled(alloc, text, &compiled, inputs, servers, how, watch)?;
+    let reported = search_compiled(
+        rt, alloc, text, &compiled, inputs, servers, how, workers, watch,
+    )?;
     Ok(reported)
 }

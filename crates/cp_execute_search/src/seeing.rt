@@ -13,6 +13,7 @@ use cp_search::search::{Explored, Watch, search};
 use cp_search_schedule::recording::{Recorded, record};
 use cp_search_states::settling::StepLimit;
 use std::alloc::{AllocError, Global};
+use std::thread::Threads;
 
 // How far each state is followed: 100 million private steps, or a million others.
 const STEP_LIMIT: StepLimit = StepLimit {
@@ -34,11 +35,12 @@ pub(crate) struct Seen {
     pub(crate) stop: Option<Stop>,
 }
 
-fn limits_of(how: Searching) -> Limits {
+fn limits_of(how: Searching, workers: u32) -> Limits {
     Limits {
         step_limit: STEP_LIMIT,
         states: how.states,
         memory: (how.memory as usize).saturating_mul(BYTES_OF_MEGABYTE),
+        workers,
     }
 }
 
@@ -80,18 +82,21 @@ fn record_at(
 /// # Errors
 ///
 /// `AllocError` if memory runs out.
-pub(crate) fn see<V: Watch>(
+pub(crate) fn see<R: Threads + Sync, V: Watch>(
+    rt: &R,
     alloc: Global,
     program: &Program,
     inputs: &ProcessInputs,
     servers: &[u32],
     how: Searching,
+    workers: u32,
     watch: &V,
 ) -> Result<Seen, AllocError>
     ensures { IfOk result (IsSeen servers.now program.now (inputs_of inputs.now)) }
 {
     let inputs = inputs.by_process(alloc, program.processes())?;
-    let explored = search(alloc, program, &inputs, servers, limits_of(how), watch)?;
+    let limits = limits_of(how, workers);
+    let explored = search(rt, alloc, program, &inputs, servers, limits, watch)?;
     let stuck = record_at(
         alloc,
         program,

@@ -31,7 +31,8 @@ use Rattle.cp_search_store.specs.declared.store.Store.{Store}
 use Rattle.cp_search_store.proofs.Growing.{more_cores, more_sound}
 use Rattle.cp_search_store.proofs.Listed.{listed_at, listed_count}
 use Rattle.cp_search_store.proofs.Made.{all_true_more, none_true}
-use Rattle.cp_search.specs.SearchResults.{HasAdded, HasExpanded, HasExplored, IsCoveredNow, IsReady, NothingIsStuck}
+use Rattle.cp_search_store.proofs.Numbered.{extends_more, extends_not}
+use Rattle.cp_search.specs.SearchResults.{HasAdded, HasExpanded, HasExplored, IsCoveredNow, IsReady, KeepsNumbers, NothingIsStuck}
 use Rattle.cp_search.proofs.Lists.{below_grown, below_more, expanded_grown, expanded_more, got_grown, grown_length, grows_more, grows_not, leads_grown}
 
 -- ---- States and their cores
@@ -41,6 +42,23 @@ cores_at inputs store i below = listed_at (core_at inputs store) (state_count st
 
 pub cores_count : (inputs : ℕ → List ℕ) (store : Store) → length (cores_of inputs store) ≡ state_count store
 cores_count inputs store = listed_count (core_at inputs store) (state_count store)
+
+-- ---- Numbers of parts
+
+pub keeps_not : (store : Store) → KeepsNumbers store store
+keeps_not store = record {
+  kernels = extends_not store.kernels.kernels.items store.kernels.kernels.items refl;
+  parts = extends_not store.parts.privates.items store.parts.privates.items refl;
+}
+
+pub keeps_twice : (old mid new : Store) → KeepsNumbers old mid → KeepsNumbers mid new → KeepsNumbers old new
+keeps_twice old mid new one two = record {
+  kernels = extends_more old.kernels.kernels.items mid.kernels.kernels.items new.kernels.kernels.items one.kernels two.kernels;
+  parts = extends_more old.parts.privates.items mid.parts.privates.items new.parts.privates.items one.parts two.parts;
+}
+
+pub keeps_more : (old new : Store) → HasMoreParts old new → KeepsNumbers old new
+keeps_more old new h = record { kernels = h.kernels; parts = h.parts }
 
 -- ---- Adding
 
@@ -63,6 +81,10 @@ module _ (program : Program) (inputs : ℕ → List ℕ) where
   pub row_added : (old new : Store) (k : ℕ) (numbers : List ℕ) (c : Core) → core_numbered inputs old k numbers ≡ c → IsAdded old k numbers new → HasAdded program inputs old c new
   row_added old new k numbers c is h = record {
     grows = h.grows inputs;
+    keeps = record {
+      kernels = extends_not old.kernels.kernels.items new.kernels.kernels.items h.kernels;
+      parts = extends_not old.parts.privates.items new.parts.privates.items h.parts;
+    };
     known = subst (Contains (cores_of inputs new)) is (h.known inputs);
     ready = λ ms ready resting. record {
       sound = h.sound;
@@ -76,6 +98,7 @@ module _ (program : Program) (inputs : ℕ → List ℕ) where
   pub added_after : (old mid new : Store) (c : Core) → IsSound old → HasMoreParts old mid → HasAdded program inputs mid c new → HasAdded program inputs old c new
   added_after old mid new c sound more h = record {
     grows = grows_more (cores_of inputs old) (cores_of inputs mid) (cores_of inputs new) (more_grows old mid sound more) h.grows;
+    keeps = keeps_twice old mid new (keeps_more old mid more) h.keeps;
     known = h.known;
     ready = λ ms ready resting. h.ready ms (more_ready old mid ms ready more) resting;
   }
@@ -87,6 +110,7 @@ module _ (program : Program) (inputs : ℕ → List ℕ) (ms : List Move) where
       → (way_at program c p ≡ Late → ⊥) → IsCoveredNow program inputs i p store store ms
   tried_no i p store c below ready is early = record {
     grows = grows_not (cores_of inputs store);
+    keeps = keeps_not store;
     ready = ready;
     tried = λ v e late. absurd (early (subst (λ w. way_at program w p ≡ Late) (same_some v c (sym e ∙ (cores_at inputs store i below ∙ ap (λ (w : Core). Some w) (sym is)))) late));
   }
@@ -95,6 +119,7 @@ module _ (program : Program) (inputs : ℕ → List ℕ) (ms : List Move) where
       → SettlesQuietly program (move_at program c p) d → IsResting program d → HasAdded program inputs store d new → IsCoveredNow program inputs i p store new ms
   tried_yes i p store new c d below ready is settles resting added = record {
     grows = added.grows;
+    keeps = added.keeps;
     ready = added.ready ms ready resting;
     tried = λ v e late.
         let there = got_grown (cores_of inputs store) (cores_of inputs new) i v added.grows (let count = cores_count inputs store in omega (arith, count, below)) e in
@@ -110,6 +135,7 @@ module _ (program : Program) (inputs : ℕ → List ℕ) (ms : List Move) where
   pub tried_after : (i p : ℕ) (old mid new : Store) → IsSound old → HasMoreParts old mid → IsCoveredNow program inputs i p mid new ms → IsCoveredNow program inputs i p old new ms
   tried_after i p old mid new sound more h = record {
     grows = grows_more (cores_of inputs old) (cores_of inputs mid) (cores_of inputs new) (more_grows program inputs old mid sound more) h.grows;
+    keeps = keeps_twice old mid new (keeps_more old mid more) h.keeps;
     ready = h.ready;
     tried = h.tried;
   }

@@ -1,1 +1,2 @@
 pub mod SearchResults
+pub mod Batches

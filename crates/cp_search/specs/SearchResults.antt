@@ -9,7 +9,7 @@ use Rattle.cp_law_servers.specs.Laws.{NoneIsStuckBut}
 use Rattle.cp_search_states.specs.Alone.{IsResting, core_from}
 use Rattle.cp_search_store.specs.Moves.{AreTrue, IsTrue}
 use Rattle.cp_search_store.specs.States.{AreResting, HasMoreParts, IsSound, core_at, cores_of}
-use Rattle.cp_search_store.specs.Stored.{kernel_at, part_at, row}
+use Rattle.cp_search_store.specs.Stored.{Extends, kernel_at, part_at, row}
 use Rattle.cp_search_store.specs.declared.moves.Key.{Key}
 use Rattle.cp_search_store.specs.declared.moves.Move.{Move}
 use Rattle.cp_search_store.specs.declared.moves.Outcome.{Outcome}
@@ -22,9 +22,15 @@ pub record IsReady (program : Program) (inputs : ℕ → List ℕ) (store : Stor
   pub rest : AreResting program (cores_of inputs store)
   pub true_moves : AreTrue program inputs store.kernels.kernels.items store.parts.privates.items moves
 
+-- Parts may have been added, and those that were there keep their numbers.
+pub record KeepsNumbers (old new : Store) : Type 0 where
+  pub kernels : Extends old.kernels.kernels.items new.kernels.kernels.items
+  pub parts : Extends old.parts.privates.items new.parts.privates.items
+
 -- The state has been added, if the store didn't have it.
 pub record HasAdded (program : Program) (inputs : ℕ → List ℕ) (old : Store) (c : Core) (new : Store) : Type 0 where
   pub grows : Grows (cores_of inputs old) (cores_of inputs new)
+  pub keeps : KeepsNumbers old new
   pub known : Contains (cores_of inputs new) c
   pub ready : (moves : List Move) → IsReady program inputs old moves → IsResting program c → IsReady program inputs new moves
 
@@ -59,12 +65,14 @@ pub record IsFound (program : Program) (inputs : ℕ → List ℕ) (old : Store)
 -- The late step of process `p` from the state at an index has been tried.
 pub record IsCoveredNow (program : Program) (inputs : ℕ → List ℕ) (i p : ℕ) (old new : Store) (moves : List Move) : Type 0 where
   pub grows : Grows (cores_of inputs old) (cores_of inputs new)
+  pub keeps : KeepsNumbers old new
   pub ready : IsReady program inputs new moves
   pub tried : (v : Core) → slice_get (cores_of inputs new) i ≡ Some v → IsCovered program (cores_of inputs new) v p
 
 -- The late steps from the state at an index have been tried.
 pub record HasExpanded (program : Program) (inputs : ℕ → List ℕ) (i : ℕ) (old new : Store) (moves : List Move) : Type 0 where
   pub grows : Grows (cores_of inputs old) (cores_of inputs new)
+  pub keeps : KeepsNumbers old new
   pub ready : IsReady program inputs new moves
   pub expanded : IsCoveredBelow program (cores_of inputs new) i (count program + 1)
 

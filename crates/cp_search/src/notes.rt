@@ -16,6 +16,8 @@ pub struct Limits {
     pub states: u32,
     /// How many bytes the states take at most, about.
     pub memory: usize,
+    /// How many threads look at states beside each other. What is found doesn't depend on it.
+    pub workers: u32,
 }
 
 impl Limits {

@@ -1,16 +1,19 @@
 //! Searches all schedules, breadth first.
 
-ghost use Rattle.std.specs.Prelude.{◌≡◌, ◌≤◌, ◌<◌, ◌+◌, ℕ, List, IfOk, [], false, true};
+ghost use Rattle.std.specs.Prelude.{◌≡◌, ◌≤◌, ◌<◌, ◌+◌, ℕ, List, IfOk, [], IfSome, false, true};
 ghost use Rattle.cp_program.specs.View as view;
 ghost use Rattle.cp_law_cores.specs.Clocks.{is_timeless};
 ghost use Rattle.cp_law_exploring.specs.Exploring.{count};
 ghost use Rattle.cp_search_states.specs.SearchStates.{input_of};
 ghost use Rattle.cp_search_store.specs.States.{cores_of, state_count, IsSound};
 ghost use Rattle.cp_search.specs.SearchResults.{HasExplored, HasExpanded, IsCoveredNow, IsReady, NothingIsStuck};
+ghost use Rattle.cp_search.specs.Batches.{AreFound, IsNext};
 
+use crate::batch::Batch;
 use crate::kinds::{Kinds, kinds_of};
 use crate::moving::{is_late, move_of};
 use crate::notes::{Limits, Notes, Origin, Stop};
+use crate::scout::{Found, Next};
 use crate::space::{Space, are_fine};
 use cp_law_exploring::law;
 use cp_law_servers::law as served;
@@ -20,6 +23,7 @@ use cp_search_states::settling::{advance, settle};
 use cp_search_states::state::SearchState;
 use cp_search_store::moves::Outcome;
 use std::alloc::{AllocError, Global};
+use std::thread::Threads;
 
 /// An observer of how far a search has come.
 pub trait Watch {
@@ -73,19 +77,56 @@ fn cover_widely(
     space.add(alloc, program, Origin::of(i, p))
 }
 
-// Makes the late step of process p from the state at an index, if its next step is late, and adds
-// the state to which it leads. Returns whether no limit was reached.
-fn cover_process(
+// The same, if a worker hasn't found where the step leads.
+fn cover_found(
     alloc: Global,
     program: &Program,
     inputs: &[Vec<u8>],
     space: &mut Space,
+    found: Option<&Found>,
     i: usize,
     p: usize,
 ) -> Result<bool, AllocError>
     requires timeless { is_timeless (view.program program.now) ≡ true }
     requires ready { IsReady (view.program program.now) (input_of inputs.now)
         space.old.store space.old.moves.moves.items }
+    requires found { IfSome found (λ f. IsNext (view.program program.now) (input_of inputs.now)
+        space.old.store i p f.now.next) }
+    requires within { i < state_count space.old.store }
+    requires first { 1 ≤ p }
+    requires last { p ≤ count (view.program program.now) }
+    ensures { IfOk result (λ done. done ≡ true → IsCoveredNow (view.program program.now)
+        (input_of inputs.now) i p space.old.store space.new.store space.new.moves.moves.items) }
+{
+    let Some(found) = found else {
+        return cover_widely(alloc, program, inputs, space, i, p);
+    };
+    match &found.next {
+        Next::NotLate => Ok(true),
+        Next::Leads { kernel, row } => {
+            space.notes.note_transition();
+            space.add_numbered(alloc, *kernel, row, Origin::of(i, p))
+        }
+    }
+}
+
+// Makes the late step of process p from the state at an index, if its next step is late, and adds
+// the state to which it leads. A worker may have found where it leads. Returns whether no limit was
+// reached.
+fn cover_process(
+    alloc: Global,
+    program: &Program,
+    inputs: &[Vec<u8>],
+    space: &mut Space,
+    found: Option<&Found>,
+    i: usize,
+    p: usize,
+) -> Result<bool, AllocError>
+    requires timeless { is_timeless (view.program program.now) ≡ true }
+    requires ready { IsReady (view.program program.now) (input_of inputs.now)
+        space.old.store space.old.moves.moves.items }
+    requires found { IfSome found (λ f. IsNext (view.program program.now) (input_of inputs.now)
+        space.old.store i p f.now.next) }
     requires within { i < state_count space.old.store }
     requires first { 1 ≤ p }
     requires last { p ≤ count (view.program program.now) }
@@ -99,7 +140,7 @@ fn cover_process(
     let outcome = move_of(alloc, program, inputs, space, key)?;
     match outcome {
         Outcome::NotLate => Ok(true),
-        Outcome::Wide => cover_widely(alloc, program, inputs, space, i, p),
+        Outcome::Wide => cover_found(alloc, program, inputs, space, found, i, p),
         Outcome::Leads { kernel, part } => {
             space.notes.note_transition();
             space.add_exchanged(alloc, i, p, kernel, part)
@@ -107,32 +148,38 @@ fn cover_process(
     }
 }
 
-// Makes the late steps of all processes from the state at an index.
+// Makes the late steps of all processes from the state at an index, by what a batch has found.
 fn expand(
     alloc: Global,
     program: &Program,
     inputs: &[Vec<u8>],
     space: &mut Space,
+    batch: &mut Batch,
     i: usize,
 ) -> Result<bool, AllocError>
     requires timeless { is_timeless (view.program program.now) ≡ true }
     requires ready { IsReady (view.program program.now) (input_of inputs.now)
         space.old.store space.old.moves.moves.items }
+    requires found { AreFound (view.program program.now) (input_of inputs.now)
+        space.old.store batch.old.found.items }
     requires within { i < state_count space.old.store }
-    ensures { IfOk result (λ done. done ≡ true → HasExpanded (view.program program.now)
+    ensures expanded { IfOk result (λ done. done ≡ true → HasExpanded (view.program program.now)
         (input_of inputs.now) i space.old.store space.new.store space.new.moves.moves.items) }
+    ensures found { batch.new.found ≡ batch.old.found }
 {
     for k in 0..program.processes() {
-        if !cover_process(alloc, program, inputs, space, i, k + 1)? {
+        if !cover_process(alloc, program, inputs, space, batch.at(i, k + 1), i, k + 1)? {
             return Ok(false);
         }
+        batch.pass(i, k + 1);
     }
     Ok(true)
 }
 
 // Expands the states that were seen, one after another, with those that are added. Returns whether
 // that came to an end.
-fn explore<W: Watch>(
+fn explore<R: Threads + Sync, W: Watch>(
+    rt: &R,
     alloc: Global,
     program: &Program,
     inputs: &[Vec<u8>],
@@ -145,12 +192,14 @@ fn explore<W: Watch>(
     ensures { IfOk result (λ done. done ≡ true → HasExplored (view.program program.now)
         (input_of inputs.now) space.old.store space.new.store) }
 {
+    let mut batch = Batch::new(alloc);
     for i in 0..u32::MAX as usize {
         if space.store.len() <= i {
             return Ok(true);
         }
         watch.note(i, space.store.len());
-        if !expand(alloc, program, inputs, space, i)? {
+        batch.begin_at(rt, alloc, program, inputs, space, i)?;
+        if !expand(alloc, program, inputs, space, &mut batch, i)? {
             return Ok(false);
         }
     }
@@ -159,7 +208,8 @@ fn explore<W: Watch>(
 
 // Adds the first state and expands all states. Returns whether all were seen, and none has a fault
 // or is stuck.
-fn search_all<W: Watch>(
+fn search_all<R: Threads + Sync, W: Watch>(
+    rt: &R,
     alloc: Global,
     program: &Program,
     inputs: &[Vec<u8>],
@@ -188,19 +238,21 @@ fn search_all<W: Watch>(
     if !space.add(alloc, program, Origin::START)? {
         return Ok(false);
     }
-    if !explore(alloc, program, inputs, space, watch)? {
+    if !explore(rt, alloc, program, inputs, space, watch)? {
         return Ok(false);
     }
     are_fine(program, servers, &space.store, &mut space.state)
 }
 
-/// Searches all schedules, breadth first. `inputs` has the inputs of the processes by number, from
+/// Searches all schedules, breadth first, by as many threads as the limits say. What it finds doesn't
+/// depend on how many there are, nor on whether they can be started. `inputs` has the inputs of the processes by number, from
 /// 1. The servers, by their numbers, may wait forever.
 ///
 /// # Errors
 ///
 /// `AllocError` if memory runs out.
-pub fn search<W: Watch>(
+pub fn search<R: Threads + Sync, W: Watch>(
+    rt: &R,
     alloc: Global,
     program: &Program,
     inputs: &[Vec<u8>],
@@ -212,7 +264,7 @@ pub fn search<W: Watch>(
         → NothingIsStuck servers.now (view.program program.now) (input_of inputs.now)) }
 {
     let mut space = Space::new(alloc, program, limits);
-    let is_fine = search_all(alloc, program, inputs, servers, &mut space, watch)?;
+    let is_fine = search_all(rt, alloc, program, inputs, servers, &mut space, watch)?;
     Ok(Explored {
         states: space.store.len(),
         is_fine,

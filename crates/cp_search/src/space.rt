@@ -14,7 +14,7 @@ ghost use Rattle.cp_search.specs.SearchResults.{HasAdded, IsKeyAt, exchanged};
 use crate::notes::{Limits, Notes, Origin, Stop};
 use cp_program::program::Program;
 use cp_search_states::state::SearchState;
-use cp_search_store::moves::{Key, Moves};
+use cp_search_store::moves::{Key, Moves, Outcome};
 use cp_search_store::store::Store;
 use std::alloc::{AllocError, Global};
 
@@ -96,6 +96,17 @@ impl Space {
         })
     }
 
+    /// Whether it is remembered where the move of process p leads in the state with an index.
+    pub(crate) fn remembers(&self, index: usize, p: usize) -> bool {
+        match self.key(index, p) {
+            Some(key) => matches!(
+                self.moves.find(key),
+                Some(Outcome::NotLate | Outcome::Leads { .. })
+            ),
+            None => false,
+        }
+    }
+
     // Adds the state whose kernel has this number, and whose private states have the numbers of the
     // row, unless it is known or a limit is reached. Returns whether the store has it.
     fn add_row(&mut self, alloc: Global, kernel: u32, origin: Origin) -> Result<bool, AllocError>
@@ -140,6 +151,27 @@ impl Space {
             return Ok(false);
         }
         let kernel = self.store.number(alloc, &self.state, &mut self.next_row)?;
+        self.add_row(alloc, kernel, origin)
+    }
+
+    /// Adds the state whose parts have these numbers, unless it is known or a limit is reached.
+    /// Returns whether the store has it.
+    pub(crate) fn add_numbered(
+        &mut self,
+        alloc: Global,
+        kernel: u32,
+        row: &[u32],
+        origin: Origin,
+    ) -> Result<bool, AllocError>
+        requires sound { IsSound self.old.store }
+        requires kernel { kernel < length self.old.store.kernels.kernels.items }
+        requires parts { All (IsBelow (length self.old.store.parts.privates.items)) row.now }
+        ensures added { IfOk result (λ added. added ≡ true
+            → IsAdded self.old.store kernel row.now self.new.store) }
+        ensures moves { self.new.moves ≡ self.old.moves }
+    {
+        self.next_row.clear();
+        self.next_row.extend_from_slice(row)?;
         self.add_row(alloc, kernel, origin)
     }
 

@@ -58,7 +58,7 @@ append_nothing : (xs : List ℕ) → xs ≡ xs ++ []
 append_nothing [] = refl
 append_nothing (x ∷ xs) = ap (λ l. x ∷ l) (append_nothing xs)
 
-below_more : {A : Type 0} (xs ys : List A) (ns : List ℕ) → Extends xs ys → All (IsBelow (length xs)) ns → All (IsBelow (length ys)) ns
+pub below_more : {A : Type 0} (xs ys : List A) (ns : List ℕ) → Extends xs ys → All (IsBelow (length xs)) ns → All (IsBelow (length ys)) ns
 below_more xs ys ns e all =
     let longer = extended_length xs ys e in
     All-weaker (IsBelow (length xs)) (IsBelow (length ys)) (λ n below. omega (arith, longer, below)) ns all

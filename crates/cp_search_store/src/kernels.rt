@@ -35,7 +35,8 @@ impl Kernels {
         }
     }
 
-    fn find(&self, kernel: &Kernel, hash: u64) -> Option<u32>
+    /// The number of a kernel with a hash, if it is known.
+    pub(crate) fn find(&self, kernel: &Kernel, hash: u64) -> Option<u32>
         ensures { IfSome result (λ n. IsKernelAt self.now.kernels.items n kernel.now) }
     {
         for step in 0..self.hints.len() {

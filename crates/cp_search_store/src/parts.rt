@@ -112,6 +112,31 @@ impl Parts {
         Ok(())
     }
 
+    /// Finds the numbers of private states. Returns whether all are known. Only the answer `true` is
+    /// proved to be right.
+    ///
+    /// # Errors
+    ///
+    /// `AllocError` if memory runs out.
+    pub(crate) fn find_all(
+        &self,
+        privates: &[PrivateBox],
+        numbers: &mut Vec<u32>,
+    ) -> Result<bool, AllocError>
+        ensures { IfOk result (λ done. done ≡ true → AreNumbered self.now.privates.items
+            numbers.new.items privates.now) }
+    {
+        numbers.clear();
+        for private in privates {
+            let known = private.private();
+            let Some(number) = self.find(known, known.hash()) else {
+                return Ok(false);
+            };
+            numbers.push(number)?;
+        }
+        Ok(true)
+    }
+
     /// The private state with a number.
     pub(crate) fn get(&self, number: u32) -> Option<&Private>
         ensures { IfSome result (λ x. IsPartAt self.now.privates.items number x.now) }

@@ -217,6 +217,25 @@ impl Store {
         Ok(kernel)
     }
 
+    /// The numbers of the parts of a state, if all are known: that of its kernel, and in `row` those
+    /// of its private states.
+    ///
+    /// # Errors
+    ///
+    /// `AllocError` if memory runs out.
+    pub fn find(&self, state: &SearchState, row: &mut Vec<u32>) -> Result<Option<u32>, AllocError>
+        ensures { IfOk result (λ found. IfSome found
+            (λ k. IsNumbered self.now state.now self.now k row.new.items)) }
+    {
+        let Some(kernel) = self.kernels.find(&state.kernel, state.kernel.hash()) else {
+            return Ok(None);
+        };
+        if !self.parts.find_all(&state.privates, row)? {
+            return Ok(None);
+        }
+        Ok(Some(kernel))
+    }
+
     // Adds a state with these numbers, and notes their hash.
     fn push(&mut self, alloc: Global, kernel: u32, row: &[u32], hash: u64) -> Result<(), AllocError>
         ensures { OnOk result (IsPushed self.old kernel row.now self.new) }

@@ -21,6 +21,7 @@ use std::alloc::Global;
 use std::fs::{self, Files};
 use std::io::{self, Input, Print};
 use std::rt::Clock;
+use std::thread::Threads;
 
 // The names of the files of the schedules that are found, by their kinds.
 #[derive(Drop)]
@@ -62,19 +63,20 @@ fn save<H: Files>(rt: &H, file: &str, finding: &Finding) -> io::Result<()> {
 }
 
 // Searches a text, prints what was found, and returns it.
-fn print_search<H: Clock + Eprint + Print>(
+fn print_search<H: Clock + Eprint + Print + Sync + Threads>(
     rt: &H,
     alloc: Global,
     text: &AcceptedText,
     inputs: &ProcessInputs,
     servers: &[u32],
     how: Searching,
+    workers: u32,
     screen: Screen,
 ) -> Result<Reported, Refusal> {
     let progress = Progress::of(rt, screen.progress);
     let is_painting = screen.colours && matches!(how.form, SearchForm::Lines);
     let mut out = progress.beside(Painter::new(alloc, io::writer(rt), is_painting));
-    let searched = search_text(alloc, text, inputs, servers, how, &progress);
+    let searched = search_text(rt, alloc, text, inputs, servers, how, workers, &progress);
     progress.erase();
     let searched = searched?;
     write_result(&mut out, &searched.page)?;
@@ -90,13 +92,14 @@ fn print_search<H: Clock + Eprint + Print>(
 ///
 /// Those of opening and reading inputs, of `process_numbers` and of `search_text`, and `Unsaved` if a
 /// file can't be written.
-pub(crate) fn search<'a, H: Clock + Eprint + Files + Input + Print>(
+pub(crate) fn search<'a, H: Clock + Eprint + Files + Input + Print + Sync + Threads>(
     rt: &H,
     alloc: Global,
     file: &'a str,
     input: &Inputs<'a>,
     servers: &[&'a str],
     how: Searching,
+    workers: u32,
     save: Option<&'a str>,
     screen: Screen,
 ) -> Result<u8, Failure<'a>> {
@@ -110,7 +113,7 @@ pub(crate) fn search<'a, H: Clock + Eprint + Files + Input + Print>(
     };
     let servers = process_numbers(alloc, &text, servers)?;
     let inputs = inputs.read(alloc, &text)?;
-    let searched = print_search(rt, alloc, &text, &inputs, &servers, how, screen)?;
+    let searched = print_search(rt, alloc, &text, &inputs, &servers, how, workers, screen)?;
     if let Some(names) = names {
         names.save(rt, &searched.findings)?;
     }

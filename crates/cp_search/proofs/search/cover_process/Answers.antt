@@ -1,16 +1,17 @@
-use Rattle.std.proofs.Common.{◌≡◌, ◌-◌, ◌<◌, refl, subst, sym, arith}
+use Rattle.std.proofs.Common.{◌-◌, ◌<◌, refl, subst, sym, arith}
 use Rattle.std.proofs.lemmas.Result.{IfOk-weaker}
 use Rattle.cp_program.specs.View as view
 use Rattle.cp_search_states.specs.SearchStates.{input_of}
 use Rattle.cp_search_store.specs.States.{core_at, state_count}
 use Rattle.cp_search_store.specs.declared.moves.Moves.{Moves}
 use Rattle.cp_search_store.specs.declared.moves.Outcome.{Outcome}
-use Rattle.cp_search_store.specs.declared.moves.Outcome.TheVariants.{Leads, NotLate, Wide}
+use Rattle.cp_search_store.specs.declared.moves.Outcome.TheVariants.{Leads, NotLate}
 use Rattle.cp_search_store.proofs.Growing.{more_count}
 use Rattle.cp_search_store.proofs.Made.{kernel_number_below, part_number_below}
 use Rattle.cp_search.specs.SearchResults.{IsCoveredNow, IsFound, exchanged}
 use Rattle.cp_search.proofs.Exchanged.{exchanged_rests, key_after, not_late}
-use Rattle.cp_search.proofs.Searched.{cores_at, tried_after, tried_no, tried_yes}
+use Rattle.cp_search.proofs.Searched.{cores_at, keeps_more, more_grows, tried_after, tried_no, tried_yes}
+use Rattle.cp_search.proofs.Batched.{some_grown}
 use Rattle.cp_search.proofs.search.cover_process.Goals as goal
 
 pub move_of-requires-clause-kernel : goal.move_of-requires-clause-kernel
@@ -21,14 +22,23 @@ pub move_of-requires-clause-part : goal.move_of-requires-clause-part
 move_of-requires-clause-part c =
     part_number_below c.args.space.now.store c.requires.ready.sound c.args.i (c.args.p - 1) c.in-Some.key.part c.in-Some.ensures.part
 
-pub cover_widely-requires-clause-ready : goal.cover_widely-requires-clause-ready
-cover_widely-requires-clause-ready c = c.in_ok-outcome.ensures.ready
+pub cover_found-requires-clause-ready : goal.cover_found-requires-clause-ready
+cover_found-requires-clause-ready c = c.in_ok-outcome.ensures.ready
 
-pub cover_widely-requires-clause-within : goal.cover_widely-requires-clause-within
-cover_widely-requires-clause-within c =
+pub cover_found-requires-clause-within : goal.cover_found-requires-clause-within
+cover_found-requires-clause-within c =
     let count = more_count c.args.space.now.store c.move_of.new.space.store c.in_ok-outcome.ensures.more in
     let within = c.requires.within in
     omega (arith, count, within)
+
+pub cover_found-requires-clause-found : goal.cover_found-requires-clause-found
+cover_found-requires-clause-found c =
+    let program = view.program c.args.program.now in
+    let inputs = input_of c.args.inputs.now in
+    let old = c.args.space.now.store in
+    let mid = c.move_of.new.space.store in
+    let more = c.in_ok-outcome.ensures.more in
+    some_grown program inputs old mid (more_grows program inputs old mid c.requires.ready.sound more) (keeps_more old mid more) c.args.i c.args.p c.args.found c.requires.found
 
 pub returns-in-NotLate : goal.returns-in-NotLate
 returns-in-NotLate c = λ e.
@@ -52,12 +62,12 @@ pub returns-in-Wide : goal.returns-in-Wide
 returns-in-Wide c =
     let program = view.program c.args.program.now in
     let inputs = input_of c.args.inputs.now in
-    let new = c.cover_widely.new.space in
-    IfOk-weaker c.cover_widely.result _ _
+    let new = c.cover_found.new.space in
+    IfOk-weaker c.cover_found.result _ _
     (λ done covered e.
     tried_after program inputs new.moves.moves.items c.args.i c.args.p c.args.space.now.store c.move_of.new.space.store new.store
     c.requires.ready.sound c.in_ok-outcome.ensures.more (covered e))
-    c.cover_widely.ensures
+    c.cover_found.ensures
 
 pub add_exchanged-requires-clause-sound : goal.add_exchanged-requires-clause-sound
 add_exchanged-requires-clause-sound c = c.in_ok-outcome.ensures.ready.sound

@@ -14,7 +14,7 @@ settle-requires-clause-silent g c =
     first_is_silent (view.program c.args.program.now) inputs (core_of inputs c.in_ok-space.field-0) (c.in_ok-space.ensures 1 inputs)
 
 pub explore-requires-clause-ready : goal.explore-requires-clause-ready
-explore-requires-clause-ready g c =
+explore-requires-clause-ready g c κs within =
     let program = view.program c.args.program.now in
     let inputs = input_of c.args.inputs.now in
     let space = c.args.space.now in
