@@ -1,7 +1,7 @@
 //! Objects of JSON: one on a line.
 
 ghost use Rattle.std.specs.Prelude.{IfOk};
-ghost use Rattle.cp_output.specs.Json.{IsJsonLine};
+ghost use Rattle.cp_output.specs.Json.{IsJsonLine, IsLineOf};
 
 use serde::Serialize;
 use std::alloc::{AllocError, Global};
@@ -15,7 +15,8 @@ pub const FORMAT: u32 = 1;
 ///
 /// `AllocError` if memory runs out.
 pub fn line<T: Serialize>(alloc: Global, value: &T) -> Result<Vec<u8>, AllocError>
-    ensures { IfOk result (λ bytes. IsJsonLine bytes.items) }
+    ensures form { IfOk result (λ bytes. IsJsonLine bytes.items) }
+    ensures value { IfOk result (λ bytes. IsLineOf (T.writes value.now) bytes.items) }
 {
     let Ok(mut bytes) = serde_json::to_vec(alloc, value) else {
         return Err(AllocError);

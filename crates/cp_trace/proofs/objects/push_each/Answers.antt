@@ -7,4 +7,4 @@ loop-change-preserved c =
     let after = c.extend_from_slice.new.self.items in
     let added = rw c.deref.ensures.value at c.in_ok-extend_from_slice.ensures.items in
     more_added c.args.out.now.items before after c.loop-change.invariant
-    (line_added before after c.in_ok-line.field-0.items added c.in_ok-line.ensures)
+    (line_added before after c.in_ok-line.field-0.items added c.in_ok-line.ensures.form)
