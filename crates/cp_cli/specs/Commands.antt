@@ -35,8 +35,8 @@ IsInRange (command.ExplainRule page) = Unit {0}
 IsInRange (command.Run file run input progress) = run.rounds ≤ MAX_ROUNDS
 IsInRange (command.Outcome file how servers shown input progress) = how.limit ≤ MAX_ROUNDS
 IsInRange (command.Trace file how only input progress) = how.rounds ≤ MAX_ROUNDS
-IsInRange (command.Search file how workers servers save input progress) =
-    (1 ≤ how.states) × (how.states ≤ MAX_OPTION_NUMBER) × (1 ≤ how.memory) × (how.memory ≤ MAX_ROUNDS) × (1 ≤ workers) × (workers ≤ MAX_WORKERS)
+IsInRange (command.Search file how servers save input progress) =
+    (1 ≤ how.states) × (how.states ≤ MAX_OPTION_NUMBER) × (1 ≤ how.memory) × (how.memory ≤ MAX_ROUNDS) × (1 ≤ how.workers) × (how.workers ≤ MAX_WORKERS)
 IsInRange (command.Replay file order replay input) = Unit {0}
 
 -- The command if there are no words after the program's name.
@@ -49,7 +49,7 @@ IsWithoutWords (command.ExplainRule page) = ⊥
 IsWithoutWords (command.Run file run input progress) = (file ≡ None) × Has ROUNDS TURN WORKERS CHUNK WAVE TICK false run × (input ≡ inputs.Empty) × (progress ≡ false)
 IsWithoutWords (command.Outcome file how servers shown input progress) = ⊥
 IsWithoutWords (command.Trace file how only input progress) = ⊥
-IsWithoutWords (command.Search file how workers servers save input progress) = ⊥
+IsWithoutWords (command.Search file how servers save input progress) = ⊥
 IsWithoutWords (command.Replay file order replay input) = ⊥
 
 -- The kind of clap's error shows whether memory ran out.

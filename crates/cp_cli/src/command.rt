@@ -89,13 +89,12 @@ pub enum Command<'a> {
         input: Inputs<'a>,
         progress: bool,
     },
-    /// `search FILE`: searches all schedules of the text of a file, by so many workers. The processes
-    /// with the names in `servers` may wait forever. The schedules that it finds are written to files
-    /// whose names begin with `save`, if that is given.
+    /// `search FILE`: searches all schedules of the text of a file. The processes with the names in
+    /// `servers` may wait forever. The schedules that it finds are written to files whose names begin
+    /// with `save`, if that is given.
     Search {
         file: &'a str,
         how: Searching,
-        workers: u32,
         servers: Vec<&'a str>,
         save: Option<&'a str>,
         input: Inputs<'a>,

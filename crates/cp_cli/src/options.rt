@@ -94,8 +94,8 @@ pub(crate) fn count<'a>(
     }
 }
 
-/// How many workers there are.
-pub(crate) fn read_workers<'a>(matches: &ArgMatches<'a>) -> Result<u32, Misuse<'a>>
+// How many workers there are.
+fn read_workers<'a>(matches: &ArgMatches<'a>) -> Result<u32, Misuse<'a>>
     ensures { IfOk result (λ n. (1 ≤ n) × (n ≤ MAX_WORKERS)) }
 {
     count(matches, "workers", 1, MAX_WORKERS, defaults::WORKERS)
@@ -242,6 +242,7 @@ pub(crate) fn read_search<'a>(matches: &ArgMatches<'a>) -> Result<Searching, Mis
 {
     let states = count(matches, "states", 1, MAX_OPTION_NUMBER, defaults::STATES)?;
     let memory = count(matches, "memory", 1, MAX_ROUNDS, defaults::MEMORY)?;
+    let workers = read_workers(matches)?;
     let form = if matches.get_flag("json") {
         SearchForm::Json
     } else {
@@ -250,6 +251,7 @@ pub(crate) fn read_search<'a>(matches: &ArgMatches<'a>) -> Result<Searching, Mis
     Ok(Searching {
         states,
         memory,
+        workers,
         form,
     })
 }

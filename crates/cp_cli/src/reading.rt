@@ -12,7 +12,7 @@ use crate::misuse::Misuse;
 use crate::numbers::MAX_ROUNDS;
 use crate::options::{
     count, read_colours, read_only, read_outcome, read_replay, read_run, read_search, read_shown,
-    read_trace, read_workers, run_of,
+    read_trace, run_of,
 };
 use crate::servers::read_servers;
 use crate::unknown::meant_by;
@@ -120,7 +120,6 @@ fn search<'a>(
     Ok(Command::Search {
         file,
         how: read_search(matches)?,
-        workers: read_workers(matches)?,
         servers: read_servers(alloc, matches)?,
         save: matches.get_str("save"),
         input: read_inputs(alloc, matches)?.beside(&[file])?,

@@ -86,7 +86,6 @@ pub(crate) fn perform<
         Command::Search {
             file,
             how,
-            workers,
             servers,
             save,
             input,
@@ -96,9 +95,7 @@ pub(crate) fn perform<
                 progress: *progress,
                 colours,
             };
-            return match search(
-                rt, alloc, file, input, servers, *how, *workers, *save, screen,
-            ) {
+            return match search(rt, alloc, file, input, servers, *how, *save, screen) {
                 Ok(status) => Ok(status),
                 Err(failure) => Err(located(rt, alloc, file, failure)),
             };

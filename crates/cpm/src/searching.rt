@@ -70,12 +70,12 @@ fn print_search<H: Clock + Eprint + Print + Sync + Threads>(
     inputs: &ProcessInputs,
     servers: &[u32],
     how: Searching,
-    workers: u32,
     screen: Screen,
 ) -> Result<Reported, Refusal> {
     let progress = Progress::of(rt, screen.progress);
     let is_painting = screen.colours && matches!(how.form, SearchForm::Lines);
     let mut out = progress.beside(Painter::new(alloc, io::writer(rt), is_painting));
+    let workers = how.workers;
     let searched = search_text(rt, alloc, text, inputs, servers, how, workers, &progress);
     progress.erase();
     let searched = searched?;
@@ -99,7 +99,6 @@ pub(crate) fn search<'a, H: Clock + Eprint + Files + Input + Print + Sync + Thre
     input: &Inputs<'a>,
     servers: &[&'a str],
     how: Searching,
-    workers: u32,
     save: Option<&'a str>,
     screen: Screen,
 ) -> Result<u8, Failure<'a>> {
@@ -113,7 +112,7 @@ pub(crate) fn search<'a, H: Clock + Eprint + Files + Input + Print + Sync + Thre
     };
     let servers = process_numbers(alloc, &text, servers)?;
     let inputs = inputs.read(alloc, &text)?;
-    let searched = print_search(rt, alloc, &text, &inputs, &servers, how, workers, screen)?;
+    let searched = print_search(rt, alloc, &text, &inputs, &servers, how, screen)?;
     if let Some(names) = names {
         names.save(rt, &searched.findings)?;
     }
