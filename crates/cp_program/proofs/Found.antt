@@ -50,62 +50,62 @@ one (x ∷ y ∷ ys) d h k = absurd (omega (arith, k))
 pub add_local : (at : ℕ) → view.application (application_case.AddLocal at) ≡ After operator.Add (view.local at)
 add_local at =
     ap view.application (sym (application_case.rolls-AddLocal at))
-    ∙ fold-roll-Application PlainApplication plain.Term PlainIndex plain.PlaceExpression plain.Term application_layer operand_layer index_layer place_expression_layer term_layer _
+    ∙ fold-roll-Application PlainApplication PlainIndex plain.Term plain.PlaceExpression plain.Term application_layer index_layer operand_layer place_expression_layer term_layer _
 
 pub add_member : (at : ℕ) → view.application (application_case.AddMember at) ≡ After operator.Add (view.member at)
 add_member at =
     ap view.application (sym (application_case.rolls-AddMember at))
-    ∙ fold-roll-Application PlainApplication plain.Term PlainIndex plain.PlaceExpression plain.Term application_layer operand_layer index_layer place_expression_layer term_layer _
+    ∙ fold-roll-Application PlainApplication PlainIndex plain.Term plain.PlaceExpression plain.Term application_layer index_layer operand_layer place_expression_layer term_layer _
 
 pub subtract_local : (at : ℕ) → view.application (application_case.SubtractLocal at) ≡ After operator.Subtract (view.local at)
 subtract_local at =
     ap view.application (sym (application_case.rolls-SubtractLocal at))
-    ∙ fold-roll-Application PlainApplication plain.Term PlainIndex plain.PlaceExpression plain.Term application_layer operand_layer index_layer place_expression_layer term_layer _
+    ∙ fold-roll-Application PlainApplication PlainIndex plain.Term plain.PlaceExpression plain.Term application_layer index_layer operand_layer place_expression_layer term_layer _
 
 pub subtract_member : (at : ℕ) → view.application (application_case.SubtractMember at) ≡ After operator.Subtract (view.member at)
 subtract_member at =
     ap view.application (sym (application_case.rolls-SubtractMember at))
-    ∙ fold-roll-Application PlainApplication plain.Term PlainIndex plain.PlaceExpression plain.Term application_layer operand_layer index_layer place_expression_layer term_layer _
+    ∙ fold-roll-Application PlainApplication PlainIndex plain.Term plain.PlaceExpression plain.Term application_layer index_layer operand_layer place_expression_layer term_layer _
 
 pub multiply_local : (at : ℕ) → view.application (application_case.MultiplyLocal at) ≡ After operator.Multiply (view.local at)
 multiply_local at =
     ap view.application (sym (application_case.rolls-MultiplyLocal at))
-    ∙ fold-roll-Application PlainApplication plain.Term PlainIndex plain.PlaceExpression plain.Term application_layer operand_layer index_layer place_expression_layer term_layer _
+    ∙ fold-roll-Application PlainApplication PlainIndex plain.Term plain.PlaceExpression plain.Term application_layer index_layer operand_layer place_expression_layer term_layer _
 
 pub multiply_member : (at : ℕ) → view.application (application_case.MultiplyMember at) ≡ After operator.Multiply (view.member at)
 multiply_member at =
     ap view.application (sym (application_case.rolls-MultiplyMember at))
-    ∙ fold-roll-Application PlainApplication plain.Term PlainIndex plain.PlaceExpression plain.Term application_layer operand_layer index_layer place_expression_layer term_layer _
+    ∙ fold-roll-Application PlainApplication PlainIndex plain.Term plain.PlaceExpression plain.Term application_layer index_layer operand_layer place_expression_layer term_layer _
 
 pub with_local : (o : Operator) (at : ℕ) → view.application (application_case.WithLocal o at) ≡ After (operator_of o) (view.local at)
 with_local o at =
     ap view.application (sym (application_case.rolls-WithLocal o at))
-    ∙ fold-roll-Application PlainApplication plain.Term PlainIndex plain.PlaceExpression plain.Term application_layer operand_layer index_layer place_expression_layer term_layer _
+    ∙ fold-roll-Application PlainApplication PlainIndex plain.Term plain.PlaceExpression plain.Term application_layer index_layer operand_layer place_expression_layer term_layer _
 
 pub with_member : (o : Operator) (at : ℕ) → view.application (application_case.WithMember o at) ≡ After (operator_of o) (view.member at)
 with_member o at =
     ap view.application (sym (application_case.rolls-WithMember o at))
-    ∙ fold-roll-Application PlainApplication plain.Term PlainIndex plain.PlaceExpression plain.Term application_layer operand_layer index_layer place_expression_layer term_layer _
+    ∙ fold-roll-Application PlainApplication PlainIndex plain.Term plain.PlaceExpression plain.Term application_layer index_layer operand_layer place_expression_layer term_layer _
 
 pub local_minus : (at : ℕ) → view.application (application_case.LocalMinus at) ≡ Before operator.Subtract (plain.Local at)
 local_minus at =
     ap view.application (sym (application_case.rolls-LocalMinus at))
-    ∙ fold-roll-Application PlainApplication plain.Term PlainIndex plain.PlaceExpression plain.Term application_layer operand_layer index_layer place_expression_layer term_layer _
+    ∙ fold-roll-Application PlainApplication PlainIndex plain.Term plain.PlaceExpression plain.Term application_layer index_layer operand_layer place_expression_layer term_layer _
 
 pub member_minus : (at : ℕ) → view.application (application_case.MemberMinus at) ≡ Before operator.Subtract (plain.Member at)
 member_minus at =
     ap view.application (sym (application_case.rolls-MemberMinus at))
-    ∙ fold-roll-Application PlainApplication plain.Term PlainIndex plain.PlaceExpression plain.Term application_layer operand_layer index_layer place_expression_layer term_layer _
+    ∙ fold-roll-Application PlainApplication PlainIndex plain.Term plain.PlaceExpression plain.Term application_layer index_layer operand_layer place_expression_layer term_layer _
 
 pub local_before : (o : Operator) (at : ℕ) → view.application (application_case.LocalBefore o at) ≡ Before (operator_of o) (plain.Local at)
 local_before o at =
     ap view.application (sym (application_case.rolls-LocalBefore o at))
-    ∙ fold-roll-Application PlainApplication plain.Term PlainIndex plain.PlaceExpression plain.Term application_layer operand_layer index_layer place_expression_layer term_layer _
+    ∙ fold-roll-Application PlainApplication PlainIndex plain.Term plain.PlaceExpression plain.Term application_layer index_layer operand_layer place_expression_layer term_layer _
 
 pub member_before : (o : Operator) (at : ℕ) → view.application (application_case.MemberBefore o at) ≡ Before (operator_of o) (plain.Member at)
 member_before o at =
     ap view.application (sym (application_case.rolls-MemberBefore o at))
-    ∙ fold-roll-Application PlainApplication plain.Term PlainIndex plain.PlaceExpression plain.Term application_layer operand_layer index_layer place_expression_layer term_layer _
+    ∙ fold-roll-Application PlainApplication PlainIndex plain.Term plain.PlaceExpression plain.Term application_layer index_layer operand_layer place_expression_layer term_layer _
 
 -- ---- Values of applications
 
@@ -130,30 +130,30 @@ before_known v x y o left p is known rx ry =
 pub operand_number : (n : ℤ) → view.operand (operand_case.Number n) ≡ plain.Number n
 operand_number n =
     ap view.operand (sym (operand_case.rolls-Number n))
-    ∙ fold-roll-Operand PlainApplication plain.Term PlainIndex plain.PlaceExpression plain.Term application_layer operand_layer index_layer place_expression_layer term_layer _
+    ∙ fold-roll-Operand PlainApplication PlainIndex plain.Term plain.PlaceExpression plain.Term application_layer index_layer operand_layer place_expression_layer term_layer _
 
 pub operand_local : (at : ℕ) → view.operand (operand_case.Local at) ≡ plain.Item (plain.Rooted (plain.Local at))
 operand_local at =
     ap view.operand (sym (operand_case.rolls-Local at))
-    ∙ fold-roll-Operand PlainApplication plain.Term PlainIndex plain.PlaceExpression plain.Term application_layer operand_layer index_layer place_expression_layer term_layer _
+    ∙ fold-roll-Operand PlainApplication PlainIndex plain.Term plain.PlaceExpression plain.Term application_layer index_layer operand_layer place_expression_layer term_layer _
 
 pub operand_member : (at : ℕ) → view.operand (operand_case.Member at) ≡ plain.Item (plain.Rooted (plain.Member at))
 operand_member at =
     ap view.operand (sym (operand_case.rolls-Member at))
-    ∙ fold-roll-Operand PlainApplication plain.Term PlainIndex plain.PlaceExpression plain.Term application_layer operand_layer index_layer place_expression_layer term_layer _
+    ∙ fold-roll-Operand PlainApplication PlainIndex plain.Term plain.PlaceExpression plain.Term application_layer index_layer operand_layer place_expression_layer term_layer _
 
 pub operand_made : (temp : ℕ) → view.operand (operand_case.Made temp) ≡ plain.Made temp
 operand_made temp =
     ap view.operand (sym (operand_case.rolls-Made temp))
-    ∙ fold-roll-Operand PlainApplication plain.Term PlainIndex plain.PlaceExpression plain.Term application_layer operand_layer index_layer place_expression_layer term_layer _
+    ∙ fold-roll-Operand PlainApplication PlainIndex plain.Term plain.PlaceExpression plain.Term application_layer index_layer operand_layer place_expression_layer term_layer _
 
 pub operand_through : (parameter plus : ℕ)
     → view.operand (operand_case.Through parameter plus) ≡ plain.Item (plain.Rooted (plain.Through parameter plus))
 operand_through parameter plus =
     ap view.operand (sym (operand_case.rolls-Through parameter plus))
-    ∙ fold-roll-Operand PlainApplication plain.Term PlainIndex plain.PlaceExpression plain.Term application_layer operand_layer index_layer place_expression_layer term_layer _
+    ∙ fold-roll-Operand PlainApplication PlainIndex plain.Term plain.PlaceExpression plain.Term application_layer index_layer operand_layer place_expression_layer term_layer _
 
 pub operand_not : (t : Box Term Global) → view.operand (operand_case.Not t) ≡ plain.Not (view.term t.value)
 operand_not t =
     ap view.operand (sym (operand_case.rolls-Not t))
-    ∙ fold-roll-Operand PlainApplication plain.Term PlainIndex plain.PlaceExpression plain.Term application_layer operand_layer index_layer place_expression_layer term_layer _
+    ∙ fold-roll-Operand PlainApplication PlainIndex plain.Term plain.PlaceExpression plain.Term application_layer index_layer operand_layer place_expression_layer term_layer _

@@ -47,8 +47,11 @@ chain_value v x (o ∷ os) = bind (apply_operation v x o) (λ z. chain_value v z
 abbrev pub offset_of : PlainIndex → ℤ → Result ℕ Fault
 offset_of i n = unless (within i.low i.high n) fault.Index (distance i.low n * i.size + i.plus)
 
+-- The distance in words to the part that an index selects.
+abbrev pub index_offset : View → PlainIndex → Result ℕ Fault
+index_offset v i = bind (value_of v i.value) (offset_of i)
+
 -- The place to which the indices lead, starting from the place `at`.
 abbrev pub elements_place : View → ℕ → List PlainIndex → Result ℕ Fault
 elements_place v at [] = Ok at
-elements_place v at (i ∷ is) =
-    bind (value_of v i.value) (λ n. bind (offset_of i n) (λ far. elements_place v (at + far) is))
+elements_place v at (i ∷ is) = bind (index_offset v i) (λ far. elements_place v (at + far) is)

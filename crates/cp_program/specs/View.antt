@@ -1,7 +1,7 @@
 -- Programs as the plain data of the definitions. Chains of operands become terms that group to
 -- the left, and indices become elements of elements. Numbers of plans become the plans, which parts
 -- and components share in the code.
-use Rattle.std.specs.Prelude.{ℕ, ◌-◌, ℤ, List, [], ◌∷◌, ◌++◌, Option, Some, None, map, slice_get}
+use Rattle.std.specs.Prelude.{ℕ, ◌+◌, ◌-◌, ℤ, List, [], ◌∷◌, ◌++◌, Option, Some, None, map, slice_get}
 use Rattle.cp_model.specs.Abstract as a
 use Rattle.cp_model.specs.Erase.{operator_of}
 use Rattle.cp_model_program.specs.Terms as plain
@@ -11,6 +11,8 @@ use Rattle.cp_program.specs.declared.element.Slot.TheVariants as slot_case
 use Rattle.cp_program.specs.declared.element.Addend.{Addend}
 use Rattle.cp_program.specs.declared.element.Addend.TheVariants as addend_case
 use Rattle.cp_program.specs.declared.element.Element.{Element}
+use Rattle.cp_program.specs.declared.element.ElementPart.{ElementPart}
+use Rattle.cp_program.specs.declared.element.NearIndex.{NearIndex}
 use Rattle.cp_program.specs.declared.term.Root.{Root}
 use Rattle.cp_program.specs.declared.term.Root.TheVariants as root_case
 use Rattle.cp_program.specs.declared.term.Function.{Function}
@@ -63,20 +65,16 @@ root_before n (plain.Local at) = plain.Local (at - n)
 root_before n (plain.Member at) = plain.Member (at - n)
 root_before n (plain.Through parameter plus) = plain.Through parameter (plus - n)
 
-abbrev pub slot : Slot → plain.Root
-slot (slot_case.Local at) = plain.Local at
-slot (slot_case.Member at) = plain.Member at
+-- The word that an index reads.
+abbrev pub slot : Slot → plain.Term
+slot (slot_case.Local at) = plain.Item (plain.Rooted (plain.Local at))
+slot (slot_case.Member at) = plain.Item (plain.Rooted (plain.Member at))
 
 -- A term and what is added to it.
 abbrev pub with_addend : Addend → plain.Term → plain.Term
 with_addend addend_case.Nothing e = e
 with_addend (addend_case.Add n) e = plain.Binary a.Add e (plain.Number n)
 with_addend (addend_case.Subtract n) e = plain.Binary a.Subtract e (plain.Number n)
-
-abbrev pub element : Element → plain.PlaceExpression
-element e =
-    plain.Element (plain.Rooted (root_before e.plus (root e.first))) e.bounds.low e.bounds.high e.size e.plus
-    (with_addend e.addend (plain.Item (plain.Rooted (slot e.slot))))
 
 -- An operator with one of its operands; the other one is the chain before it. A word can be the left operand.
 pub data PlainApplication : Type 0 where
@@ -89,6 +87,22 @@ pub record PlainIndex : Type 0 where
   pub size : ℕ
   pub plus : ℕ
   pub value : plain.Term
+
+-- The index of a part of each element, by its value.
+abbrev pub index_of : ElementPart → plain.Term → PlainIndex
+index_of p e = record { low = p.bounds.low; high = p.bounds.high; size = p.size; plus = p.plus; value = e }
+
+-- The index of the part `n` words further on.
+abbrev pub index_after : ℕ → PlainIndex → PlainIndex
+index_after n i = record { low = i.low; high = i.high; size = i.size; plus = i.plus + n; value = i.value }
+
+abbrev pub near_index : NearIndex → PlainIndex
+near_index i = index_of i.part (with_addend i.addend (slot i.slot))
+
+abbrev pub element : Element → plain.PlaceExpression
+element e =
+    let i = near_index e.index in
+    plain.Element (plain.Rooted (root_before i.plus (root e.first))) i.low i.high i.size i.plus i.value
 
 -- The term for operands with operators between them, which group to the left.
 abbrev pub applied_to : plain.Term → PlainApplication → plain.Term
@@ -104,7 +118,7 @@ abbrev pub elements_of : plain.PlaceExpression → List PlainIndex → plain.Pla
 elements_of s [] = s
 elements_of s (i ∷ is) = elements_of (plain.Element s i.low i.high i.size i.plus i.value) is
 
-abbrev pub operand_layer : Operand-F PlainApplication plain.Term PlainIndex plain.PlaceExpression plain.Term → plain.Term
+abbrev pub operand_layer : Operand-F PlainApplication PlainIndex plain.Term plain.PlaceExpression plain.Term → plain.Term
 operand_layer (Operand-F.Number n) = plain.Number n
 operand_layer (Operand-F.Made temp) = plain.Made temp
 operand_layer (Operand-F.Local at) = plain.Item (plain.Rooted (plain.Local at))
@@ -126,7 +140,7 @@ local at = plain.Item (plain.Rooted (plain.Local at))
 abbrev pub member : ℕ → plain.Term
 member at = plain.Item (plain.Rooted (plain.Member at))
 
-abbrev pub application_layer : Application-F PlainApplication plain.Term PlainIndex plain.PlaceExpression plain.Term → PlainApplication
+abbrev pub application_layer : Application-F PlainApplication PlainIndex plain.Term plain.PlaceExpression plain.Term → PlainApplication
 application_layer (Application-F.AddNumber n) = After a.Add (plain.Number n)
 application_layer (Application-F.SubtractNumber n) = After a.Subtract (plain.Number n)
 application_layer (Application-F.MultiplyNumber n) = After a.Multiply (plain.Number n)
@@ -148,29 +162,30 @@ application_layer (Application-F.LocalBefore o at) = Before (operator_of o) (pla
 application_layer (Application-F.MemberBefore o at) = Before (operator_of o) (plain.Member at)
 application_layer (Application-F.WithOperand o x) = After (operator_of o) x
 
-abbrev pub index_layer : Index-F PlainApplication plain.Term PlainIndex plain.PlaceExpression plain.Term → PlainIndex
-index_layer i = record { low = i.low; high = i.high; size = i.size; plus = i.plus; value = i.value }
+abbrev pub index_layer : Index-F PlainApplication PlainIndex plain.Term plain.PlaceExpression plain.Term → PlainIndex
+index_layer (Index-F.Near i) = near_index i
+index_layer (Index-F.Far p value) = index_of p value
 
-abbrev pub place_expression_layer : PlaceExpression-F PlainApplication plain.Term PlainIndex plain.PlaceExpression plain.Term → plain.PlaceExpression
+abbrev pub place_expression_layer : PlaceExpression-F PlainApplication PlainIndex plain.Term plain.PlaceExpression plain.Term → plain.PlaceExpression
 place_expression_layer s = elements_of (plain.Rooted (root s.root)) s.indices.items
 
-abbrev pub term_layer : Term-F PlainApplication plain.Term PlainIndex plain.PlaceExpression plain.Term → plain.Term
+abbrev pub term_layer : Term-F PlainApplication PlainIndex plain.Term plain.PlaceExpression plain.Term → plain.Term
 term_layer t = chain_of t.first t.rest.items
 
 abbrev pub operand : Operand → plain.Term
-operand = fold-Operand PlainApplication plain.Term PlainIndex plain.PlaceExpression plain.Term application_layer operand_layer index_layer place_expression_layer term_layer
+operand = fold-Operand PlainApplication PlainIndex plain.Term plain.PlaceExpression plain.Term application_layer index_layer operand_layer place_expression_layer term_layer
 
 abbrev pub application : Application → PlainApplication
-application = fold-Application PlainApplication plain.Term PlainIndex plain.PlaceExpression plain.Term application_layer operand_layer index_layer place_expression_layer term_layer
+application = fold-Application PlainApplication PlainIndex plain.Term plain.PlaceExpression plain.Term application_layer index_layer operand_layer place_expression_layer term_layer
 
 abbrev pub index : Index → PlainIndex
-index = fold-Index PlainApplication plain.Term PlainIndex plain.PlaceExpression plain.Term application_layer operand_layer index_layer place_expression_layer term_layer
+index = fold-Index PlainApplication PlainIndex plain.Term plain.PlaceExpression plain.Term application_layer index_layer operand_layer place_expression_layer term_layer
 
 abbrev pub place_expression : PlaceExpression → plain.PlaceExpression
-place_expression = fold-PlaceExpression PlainApplication plain.Term PlainIndex plain.PlaceExpression plain.Term application_layer operand_layer index_layer place_expression_layer term_layer
+place_expression = fold-PlaceExpression PlainApplication PlainIndex plain.Term plain.PlaceExpression plain.Term application_layer index_layer operand_layer place_expression_layer term_layer
 
 abbrev pub term : Term → plain.Term
-term = fold-Term PlainApplication plain.Term PlainIndex plain.PlaceExpression plain.Term application_layer operand_layer index_layer place_expression_layer term_layer
+term = fold-Term PlainApplication PlainIndex plain.Term plain.PlaceExpression plain.Term application_layer index_layer operand_layer place_expression_layer term_layer
 
 -- ---- Operations
 

@@ -1,5 +1,6 @@
-//! Elements whose one index is a word, or a word and a number. Their places need no loop and no
-//! chain: what the index and the bounds come to is worked out when the program is made.
+//! Indices that are a word, or a word and a number, and elements by one such index. Their places
+//! need no chain of operands: what an index and its bounds come to is worked out when the program
+//! is made.
 
 ghost use Rattle.std.specs.Prelude.{◌≡◌, ◌≤◌, ◌≤ℤ◌, ◌-ℤ◌, pos, negsuc};
 ghost use Rattle.cp_program.specs.Shifts.{added_by, distance_to};
@@ -24,25 +25,37 @@ pub enum Addend {
     Subtract(i32),
 }
 
-/// An element, or a part of one, of an array that begins at a root. The place is that of the part
-/// in the first element, and as many sizes further on as the sum of the word and `shift` says.
+/// A part of each element of an array.
 #[derive(Clone, Copy)]
-pub struct Element {
-    /// Where the part begins in the first element.
-    pub(crate) first: Root,
-    /// The distance of the part from where its element begins.
-    pub(crate) plus: u32,
-    pub(crate) slot: Slot,
-    pub(crate) addend: Addend,
+pub struct ElementPart {
     /// The bounds of the array.
     pub(crate) bounds: Bounds,
     /// The size of an element in words.
     pub(crate) size: u32,
+    /// The distance of the part from where its element begins.
+    pub(crate) plus: u32,
+}
+
+/// An index that is a word, or a word and a number. It selects the element whose distance from the
+/// first one, in elements, is the sum of the word and `shift`.
+#[derive(Clone, Copy)]
+pub struct NearIndex {
+    pub(crate) part: ElementPart,
+    pub(crate) slot: Slot,
+    pub(crate) addend: Addend,
     pub(crate) shift: i32,
     /// The greatest distance, in elements.
     pub(crate) last: u32,
-    ghost shifted: { shift ≡ added_by addend -ℤ bounds.low },
-    ghost reach: { pos last ≡ bounds.high -ℤ bounds.low },
-    ghost exact: { (negsuc 32767 ≤ℤ bounds.low) × (bounds.high ≤ℤ pos 32767) },
-    ghost within: { plus ≤ distance_to first },
+    ghost shifted: { shift ≡ added_by addend -ℤ part.bounds.low },
+    ghost reach: { pos last ≡ part.bounds.high -ℤ part.bounds.low },
+    ghost exact: { (negsuc 32767 ≤ℤ part.bounds.low) × (part.bounds.high ≤ℤ pos 32767) },
+}
+
+/// An element, or a part of one, of an array that begins at a root.
+#[derive(Clone, Copy)]
+pub struct Element {
+    /// Where the part begins in the first element.
+    pub(crate) first: Root,
+    pub(crate) index: NearIndex,
+    ghost within: { index.part.plus ≤ distance_to first },
 }

@@ -8,7 +8,7 @@ ghost use Rattle.cp_model_program.specs.Layout as layout;
 ghost use Rattle.cp_model_program.specs.Starts as starts;
 ghost use Rattle.cp_model_program.specs.Terms as terms;
 ghost use Rattle.cp_model_machine.specs.Values as values;
-ghost use Rattle.cp_program.specs.Reaches.{apply_operation, cap_place, capped_result, chain_value, elements_place, offset_of, view_of};
+ghost use Rattle.cp_program.specs.Reaches.{apply_operation, cap_place, capped_result, chain_value, elements_place, index_offset, view_of};
 ghost use Rattle.cp_program.specs.View as view;
 
 use crate::arithmetic::{apply, in_range, standard, truth};
@@ -268,15 +268,21 @@ impl Term {
     }
 }
 
-// The distance in words of the part that an index of the value `n` selects.
-fn offset(i: &Index, n: i32) -> Result<usize, Fault>
-    ensures { result ≡ offset_of (view.index i.now) n }
-{
-    if n < i.low || i.high < n {
-        return Err(Fault::Index);
+impl Index {
+    // The distance in words of the part that the index selects.
+    #[cycle(value)]
+    #[inline(always)]
+    fn offset(&self, reach: &Reach) -> Result<usize, Fault>
+        ensures { result ≡ index_offset (view_of reach.now) (view.index self.now) }
+    {
+        match self {
+            Index::Near(i) => i.offset(reach),
+            Index::Far { part, value } => {
+                let n = value.value_here(reach)?;
+                part.offset(n)
+            }
+        }
     }
-    let distance = (i64::from(n) - i64::from(i.low)) as usize;
-    Ok(distance * i.size as usize + i.plus as usize)
 }
 
 // The place to which the indices lead, starting from the place `from`.
@@ -287,8 +293,7 @@ fn place_of_element(from: usize, indices: &[Index], reach: &Reach) -> Result<usi
 {
     let mut at = from;
     for i in indices {
-        let n = i.value.value_here(reach)?;
-        at = at.saturating_add(offset(i, n)?);
+        at = at.saturating_add(i.offset(reach)?);
     }
     Ok(at)
 }

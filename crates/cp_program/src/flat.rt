@@ -9,14 +9,13 @@
 //! nothing if a term or place expression goes deeper, has a fault, or needs a word that `W` doesn't
 //! find. Then `evaluation` is called.
 
-ghost use Rattle.std.specs.Prelude.{◌≡◌, ℕ, ◌+◌, ◌<◌, ◌^◌, ◌++◌, ◌∷◌, [], IfSome, Ok, map};
+ghost use Rattle.std.specs.Prelude.{◌≡◌, ℕ, IfSome, Ok, map};
 ghost use Rattle.cp_model_program.specs.Terms as terms;
 ghost use Rattle.cp_model_machine.specs.Values as values;
-ghost use Rattle.cp_program.specs.Reaches.{apply_operation, chain_value, elements_place, offset_of, view_with};
+ghost use Rattle.cp_program.specs.Reaches.{chain_value, elements_place, index_offset, view_with};
 ghost use Rattle.cp_program.specs.View as view;
 
 use crate::arithmetic::truth;
-use crate::exact::{difference, sum};
 use crate::reach::{Memory, Words};
 use crate::term::{Application, Index, Operand, PlaceExpression, Root, Term};
 
@@ -191,72 +190,62 @@ impl Term {
     }
 }
 
-// The distance in words of the part that an index of the value `n` selects.
-#[inline(always)]
-fn offset(i: &Index, n: i32) -> Option<usize>
-    ensures { IfSome result (λ far. offset_of (view.index i.now) n ≡ Ok far) }
-{
-    if n < i.low || i.high < n {
-        return None;
+impl Operand {
+    // The number that the operand is.
+    #[inline(always)]
+    fn number(&self) -> Option<i32>
+        ensures { IfSome result (λ n. view.operand self.now ≡ terms.Number n) }
+    {
+        match self {
+            Operand::Number(n) => Some(*n),
+            _ => None,
+        }
     }
-    let distance = (i64::from(n) - i64::from(i.low)) as usize;
-    Some(distance * i.size as usize + i.plus as usize)
 }
 
-// The value of a chain whose first operand has the value `n`, if no operator follows, or one that adds
-// or subtracts a number.
-#[inline(always)]
-fn moved_by(n: i32, rest: &[Application]) -> Option<i32>
-    ensures { (v : values.View) → IfSome result
-        (λ m. chain_value v n (map view.application rest.now) ≡ Ok m) }
-{
-    match rest {
-        [] => Some(n),
-        [x] => x.moved(n),
-        _ => None,
+impl Term {
+    // The number that the term is.
+    #[inline(always)]
+    fn number_of(&self) -> Option<i32>
+        ensures { IfSome result (λ n. view.term self.now ≡ terms.Number n) }
+    {
+        if !self.rest.is_empty() {
+            return None;
+        }
+        self.first.number()
     }
 }
 
 impl Index {
-    // The value of an index that is a number or a word, or one of these and a number.
+    // The distance in words to which the index leads, if it needs no chain: it is a number, or a
+    // word, or a word and a number.
     #[inline(always)]
-    fn near_value<W: Words>(&self, memory: &Memory, shared: &[i32]) -> Option<i32>
-        ensures { (clock : ℕ) → IfSome result (λ n. values.value_of
-            (view_with memory.now shared.now clock) (view.term self.now.value) ≡ Ok n) }
+    fn near_offset<W: Words>(&self, memory: &Memory, shared: &[i32]) -> Option<usize>
+        ensures { (clock : ℕ) → IfSome result (λ far. index_offset
+            (view_with memory.now shared.now clock) (view.index self.now) ≡ Ok far) }
     {
-        let first = self.value.first.flat_value::<W>(memory, shared)?;
-        moved_by(first, &self.value.rest)
+        match self {
+            Index::Near(i) => i.fast_offset::<W>(memory, shared),
+            Index::Far { part, value } => {
+                let n = value.number_of()?;
+                part.offset(n).ok()
+            }
+        }
     }
 
-    // The place to which the index leads from another, if its value is `n`.
+    // The distance in words to which the index leads, if it is flat.
     #[inline(always)]
-    fn place_at(&self, from: usize, n: i32) -> Option<usize>
-        ensures { IfSome result (λ at. values.bind (offset_of (view.index self.now) n)
-            (λ far. Ok (from + far)) ≡ Ok at) }
+    fn flat_offset<W: Words>(&self, memory: &Memory, shared: &[i32]) -> Option<usize>
+        ensures { (clock : ℕ) → IfSome result (λ far. index_offset
+            (view_with memory.now shared.now clock) (view.index self.now) ≡ Ok far) }
     {
-        let far = offset(self, n)?;
-        from.checked_add(far)
-    }
-
-    // The place to which the index leads from another, if it is a number or a word, or one of these
-    // and a number.
-    #[inline(always)]
-    fn near_place<W: Words>(&self, from: usize, memory: &Memory, shared: &[i32]) -> Option<usize>
-        ensures { (clock : ℕ) → IfSome result (λ at. elements_place
-            (view_with memory.now shared.now clock) from (view.index self.now ∷ []) ≡ Ok at) }
-    {
-        let n = self.near_value::<W>(memory, shared)?;
-        self.place_at(from, n)
-    }
-
-    // The place to which the index leads from another, if it is flat.
-    #[inline(always)]
-    fn flat_place<W: Words>(&self, from: usize, memory: &Memory, shared: &[i32]) -> Option<usize>
-        ensures { (clock : ℕ) → IfSome result (λ at. elements_place
-            (view_with memory.now shared.now clock) from (view.index self.now ∷ []) ≡ Ok at) }
-    {
-        let n = self.value.flat_value::<W>(memory, shared)?;
-        self.place_at(from, n)
+        match self {
+            Index::Near(i) => i.fast_offset::<W>(memory, shared),
+            Index::Far { part, value } => {
+                let n = value.flat_value::<W>(memory, shared)?;
+                part.offset(n).ok()
+            }
+        }
     }
 }
 
@@ -273,13 +262,13 @@ fn flat_place_of_element<W: Words>(
 {
     let mut at = from;
     for i in indices {
-        at = i.flat_place::<W>(at, memory, shared)?;
+        at = at.checked_add(i.flat_offset::<W>(memory, shared)?)?;
     }
     Some(at)
 }
 
-// The place to which the indices lead, starting from the place `from`, if they are flat. Most
-// indices are words, or a word and a number, which need no call.
+// The place to which the indices lead, starting from the place `from`, if they are flat. Most need
+// no chain, and so no call.
 #[inline(always)]
 fn fast_place_of_element<W: Words>(
     from: usize,
@@ -293,10 +282,10 @@ fn fast_place_of_element<W: Words>(
     let mut at = from;
     let mut left = indices;
     while let Some((i, after)) = left.split_first() {
-        let Some(next) = i.near_place::<W>(at, memory, shared) else {
+        let Some(far) = i.near_offset::<W>(memory, shared) else {
             return flat_place_of_element::<W>(at, left, memory, shared);
         };
-        at = next;
+        at = at.checked_add(far)?;
         left = after;
     }
     Some(at)

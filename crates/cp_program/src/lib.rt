@@ -3,7 +3,8 @@
 //!
 //! - `term`, `divisor`: expressions, which are chains of operands, and place expressions, which are
 //!   places of variables. `applications`: the forms of an operator with an operand.
-//! - `element`, `elements`: elements by one index that is a word, or a word and a number.
+//! - `element`: indices that need no chain of operands, and elements by one of them. `indices`,
+//!   `elements`: how they are made. `element_places`: where elements are.
 //! - `operation`: operations, each of which is one step and holds the places to which it leads.
 //! - `bounds`: the numbers that a variable may hold.
 //! - `arm`, `arms`, `search`: where a `case` leads.
@@ -26,10 +27,12 @@ pub mod arms;
 pub mod bounds;
 pub mod divisor;
 pub mod element;
+mod element_places;
 mod elements;
 pub mod evaluation;
 mod exact;
 pub mod flat;
+mod indices;
 mod memory;
 pub mod operation;
 mod operators;

@@ -34,19 +34,6 @@ impl Operands {
 }
 
 impl Application {
-    // The value of the sum or difference of `left`, the value so far, and a number.
-    #[inline(always)]
-    pub(crate) fn moved(&self, left: i32) -> Option<i32>
-        ensures { (v : values.View) → IfSome result
-            (λ n. apply_operation v left (view.application self.now) ≡ Ok n) }
-    {
-        match self {
-            Application::AddNumber(n) => sum(left, *n),
-            Application::SubtractNumber(n) => difference(left, *n),
-            _ => None,
-        }
-    }
-
     // The value of a sum, difference, product, quotient or remainder of `left`, the value so far,
     // and a flat operand.
     #[inline(always)]

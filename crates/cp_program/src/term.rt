@@ -10,8 +10,9 @@ ghost use Rattle.cp_model_program.specs.TermsFor.{move_place_expression, move_ro
 ghost use Rattle.cp_model.specs.Erase.{operator_of};
 ghost use Rattle.cp_program.specs.View as view;
 
+use crate::bounds::Bounds;
 use crate::divisor::Divisor;
-use crate::element::Element;
+use crate::element::{Element, ElementPart, NearIndex};
 use cp_model::tree::Operator;
 use std::alloc::{AllocError, Global};
 
@@ -99,16 +100,14 @@ pub enum Application {
     MemberBefore(Operator, u32),
 }
 
-/// An index: the bounds of the array, the size of an element in words, the offset of a part within
-/// the element, and the value of the index.
+/// An index: the element of an array that it selects, or a part of that element.
 #[cycle(terms)]
 #[derive(Drop)]
-pub struct Index {
-    pub low: i32,
-    pub high: i32,
-    pub size: u32,
-    pub plus: u32,
-    pub value: Term,
+pub enum Index {
+    /// A word, or a word and a number.
+    Near(NearIndex),
+    /// Any other value.
+    Far { part: ElementPart, value: Term },
 }
 
 /// The place of a variable or of a part of one.
@@ -180,18 +179,16 @@ impl PlaceExpression {
         size: u32,
         value: Term,
     ) -> Result<PlaceExpression, AllocError>
-        ensures { IfOk result
-            (λ s. view.place_expression s ≡ plain.Element (view.place_expression self) low high size 0 (view.term value)) }
+        ensures { IfOk result (λ s. view.place_expression s ≡ plain.Element
+            (view.place_expression self) low high size 0 (view.term value)) }
     {
         let PlaceExpression { root, mut indices } = self;
-        let index = Index {
-            low,
-            high,
+        let part = ElementPart {
+            bounds: Bounds { low, high },
             size,
             plus: 0,
-            value,
         };
-        push_exactly(&mut indices, index)?;
+        push_exactly(&mut indices, Index::new(part, value))?;
         Ok(PlaceExpression { root, indices })
     }
 
@@ -207,8 +204,7 @@ impl PlaceExpression {
             });
         }
         let last = indices.len() - 1;
-        let index = &mut indices[last];
-        index.plus = index.plus.checked_add(words)?;
+        indices[last].advance(words)?;
         Some(PlaceExpression { root, indices })
     }
 }

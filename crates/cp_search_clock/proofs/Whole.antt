@@ -7,6 +7,9 @@ use Rattle.cp_law_cores.specs.Clocks.{are_timeless, argument_is_timeless, argume
 use Rattle.cp_law_cores.proofs.Parts.{none_is}
 use Rattle.cp_model.proofs.Options.{same_some}
 use Rattle.cp_program.specs.declared.element.Element.{Element}
+use Rattle.cp_program.specs.declared.element.NearIndex.{NearIndex}
+use Rattle.cp_program.specs.declared.element.Slot.{Slot}
+use Rattle.cp_program.specs.declared.element.Slot.TheVariants as slot_case
 use Rattle.cp_program.specs.declared.element.Addend.{Addend}
 use Rattle.cp_program.specs.declared.element.Addend.TheVariants as addend_case
 use Rattle.cp_program.specs.View as view
@@ -74,16 +77,23 @@ elements_pass s (i ∷ is) h all =
     let split = parts (term_is_timeless i.value) (indices_are_timeless is) all in
     elements_pass (plain.Element s i.low i.high i.size i.plus i.value) is (both (place_expression_is_timeless s) (term_is_timeless i.value) h split.0) split.1
 
--- An element reads no clock.
+-- An index that needs no chain, and an element, read no clock.
 with_addend_passes : (s : Addend) (e : plain.Term) → term_is_timeless e ≡ true → term_is_timeless (view.with_addend s e) ≡ true
 with_addend_passes addend_case.Nothing e h = h
 with_addend_passes (addend_case.Add n) e h = both (term_is_timeless e) true h refl
 with_addend_passes (addend_case.Subtract n) e h = both (term_is_timeless e) true h refl
 
+slot_passes : (s : Slot) → term_is_timeless (view.slot s) ≡ true
+slot_passes (slot_case.Local at) = refl
+slot_passes (slot_case.Member at) = refl
+
+pub near_passes : (i : NearIndex) → term_is_timeless (view.near_index i).value ≡ true
+near_passes i = with_addend_passes i.addend (view.slot i.slot) (slot_passes i.slot)
+
 pub element_passes : (e : Element) → place_expression_is_timeless (view.element e) ≡ true
-element_passes e = with_addend_passes e.addend (plain.Item (plain.Rooted (view.slot e.slot))) refl
+element_passes e = near_passes e.index
 
 pub element_operand : (e : Box Element Global) → view.operand (operand_case.Element e) ≡ plain.Item (view.element e.value)
 element_operand e =
     ap view.operand (sym (operand_case.rolls-Element e))
-    ∙ fold-roll-Operand PlainApplication plain.Term PlainIndex plain.PlaceExpression plain.Term application_layer operand_layer index_layer place_expression_layer term_layer _
+    ∙ fold-roll-Operand PlainApplication PlainIndex plain.Term plain.PlaceExpression plain.Term application_layer index_layer operand_layer place_expression_layer term_layer _

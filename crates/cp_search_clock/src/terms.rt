@@ -81,11 +81,21 @@ pub(crate) fn term_is_timeless(t: &Term) -> bool
 }
 
 #[cycle(clock)]
+fn index_is_timeless(i: &Index) -> bool
+    ensures { result ≡ true → plain.term_is_timeless (view.index i.now).value ≡ true }
+{
+    match i {
+        Index::Near(_) => true,
+        Index::Far { value, .. } => term_is_timeless(value),
+    }
+}
+
+#[cycle(clock)]
 fn path_is_timeless(indices: &[Index]) -> bool
     ensures { result ≡ true → indices_are_timeless (map view.index indices.now) ≡ true }
 {
     for i in indices {
-        if !term_is_timeless(&i.value) {
+        if !index_is_timeless(i) {
             return false;
         }
     }

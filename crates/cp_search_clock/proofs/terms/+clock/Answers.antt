@@ -7,9 +7,9 @@ use Rattle.cp_program.specs.View as view
 use Rattle.cp_program.specs.declared.term.PlaceExpression.{out-PlaceExpression}
 use Rattle.cp_program.specs.declared.term.Term.{out-Term}
 use Rattle.cp_program.specs.View.{PlainIndex}
-use Rattle.cp_program.proofs.Chains.{index_is, place_expression_is, term_is}
+use Rattle.cp_program.proofs.Chains.{index_far, index_near, place_expression_is, term_is}
 use Rattle.cp_search_clock.specs.Chains.{application_is_timeless, applications_are_timeless, indices_are_timeless}
-use Rattle.cp_search_clock.proofs.Whole.{chain_passes, element_operand, element_passes, elements_pass, left_more, left_past, more_applications, more_indices}
+use Rattle.cp_search_clock.proofs.Whole.{chain_passes, element_operand, element_passes, elements_pass, left_more, left_past, more_applications, more_indices, near_passes}
 use Rattle.cp_search_clock.proofs.terms.+clock.Goals as goal
 
 pub chain_is_timeless-loop-x-preserved : goal.chain_is_timeless-loop-x-preserved
@@ -37,7 +37,7 @@ path_is_timeless-loop-i-preserved t c =
     let here : slice_get xs i ≡ Some (view.index x) =
     slice_get-map view.index c.args.indices.now i
     ∙ ap (option_map view.index) (slice_get-get_or c.args.indices.now i x c.loop-i-test.true ∙ ap (λ z. Some z) (sym c.i-item.is)) in
-    left_more (λ (i : PlainIndex). term_is_timeless i.value) indices_are_timeless refl more_indices xs i (view.index x) here (ap (λ (i : PlainIndex). term_is_timeless i.value) (index_is c.i-item.result) ∙ c.term_is_timeless.ensures c.if-not-term_is_timeless.false) c.loop-i.invariant
+    left_more (λ (i : PlainIndex). term_is_timeless i.value) indices_are_timeless refl more_indices xs i (view.index x) here (c.index_is_timeless.ensures c.if-not-index_is_timeless.false) c.loop-i.invariant
 
 pub path_is_timeless-returns : goal.path_is_timeless-returns
 path_is_timeless-returns t c = λ e.
@@ -63,3 +63,14 @@ pub operand_is_timeless-returns-in-Element : goal.operand_is_timeless-returns-in
 operand_is_timeless-returns-in-Element t c = λ e.
     let x = c.in-Element.field-0 in
     ap (λ y. term_is_timeless (view.operand y)) c.in-Element.is ∙ (ap term_is_timeless (element_operand x) ∙ element_passes x.value)
+
+pub index_is_timeless-returns-in-Near : goal.index_is_timeless-returns-in-Near
+index_is_timeless-returns-in-Near t c = λ e.
+    let i = c.in-Near.field-0 in
+    ap (λ x. term_is_timeless (view.index x).value) c.in-Near.is ∙ (ap (λ (x : PlainIndex). term_is_timeless x.value) (index_near i) ∙ near_passes i)
+
+pub index_is_timeless-returns-in-Far : goal.index_is_timeless-returns-in-Far
+index_is_timeless-returns-in-Far t c = λ e.
+    let x = c.in-Far in
+    ap (λ y. term_is_timeless (view.index y).value) x.is
+    ∙ (ap (λ (i : PlainIndex). term_is_timeless i.value) (index_far x.part x.value) ∙ c.term_is_timeless.ensures e)

@@ -1,5 +1,4 @@
-use Rattle.std.proofs.Common.{rules, ◌≡◌, ◌≤◌, ◌+◌, ◌*◌, pos, ◌+ℤ◌, Ok, IfSome, ap, ◌∙◌, to_z, of_z, w32}
-use Rattle.cp_model_program.specs.Terms as terms
+use Rattle.std.proofs.Common.{rules, ◌≡◌, ◌≤◌, ◌+◌, ◌*◌, pos, ◌+ℤ◌, Ok, ap, ◌∙◌, to_z, of_z, w32}
 use Rattle.cp_model_machine.specs.Values.{place_of, root_place, value_of}
 use Rattle.cp_program.specs.Reaches.{view_with}
 use Rattle.cp_program.specs.View as view
@@ -14,10 +13,10 @@ returns g c clock =
     let n = c.in_ok-n.n in
     let d = c.in_ok-distance.distance in
     let same : to_z w32 (of_z w32 n) ≡ n = search rules in
-    let known : value_of v (terms.Item (terms.Rooted (view.slot e.slot))) ≡ Ok n = reported _ n _ c.in_ok-n.was (c.fast_value.ensures clock) in
-    let shifted : pos d ≡ n +ℤ e.shift = c.in_ok-distance.ensures.shifted ∙ ap (λ m. m +ℤ e.shift) same in
-    let last : d ≤ e.last = c.in_ok-distance.ensures.last in
+    let known : value_of v (view.slot e.index.slot) ≡ Ok n = reported _ n _ c.in_ok-n.was (c.fast_value.ensures clock) in
+    let shifted : pos d ≡ n +ℤ e.index.shift = c.in_ok-distance.ensures.shifted ∙ ap (λ m. m +ℤ e.index.shift) same in
+    let last : d ≤ e.index.last = c.in_ok-distance.ensures.last in
     let from : root_place v (view.root e.first) ≡ c.in_ok-from.from = c.in_ok-from.ensures clock in
-    let placed : place_of v (view.element e) ≡ Ok (c.in_ok-from.from + d * e.size) =
-    element_found v e n d known shifted last ∙ ap (λ at. Ok (at + d * e.size)) from in
+    let placed : place_of v (view.element e) ≡ Ok (c.in_ok-from.from + d * e.index.part.size) =
+    element_found v e n d known shifted last ∙ ap (λ at. Ok (at + d * e.index.part.size)) from in
     found_as c.checked_add.result _ _ placed (search rules)

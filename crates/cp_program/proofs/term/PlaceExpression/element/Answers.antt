@@ -4,13 +4,8 @@ use Rattle.std.proofs.lemmas.Int.{to_z-of_z}
 use Rattle.std.proofs.lemmas.List.{map-append}
 use Rattle.cp_model_program.specs.Terms as plain
 use Rattle.cp_program.specs.View.{PlainIndex, elements_of, index, root, term}
-use Rattle.cp_program.specs.declared.term.Index.{Index, roll-Index}
-use Rattle.cp_program.specs.declared.term.Operand.{Operand}
-use Rattle.cp_program.specs.declared.term.Application.TheOpen.{Index-F}
-use Rattle.cp_program.specs.declared.term.Application.{Application}
-use Rattle.cp_program.specs.declared.term.Term.{Term}
-use Rattle.cp_program.specs.declared.term.PlaceExpression.{PlaceExpression, out-PlaceExpression}
-use Rattle.cp_program.proofs.Chains.{elements_more, index_rolled, place_expression_is, place_expression_rolled}
+use Rattle.cp_program.specs.declared.term.PlaceExpression.{out-PlaceExpression}
+use Rattle.cp_program.proofs.Chains.{elements_more, place_expression_is, place_expression_rolled}
 use Rattle.cp_program.proofs.Wide.{narrow}
 use Rattle.cp_program.proofs.term.PlaceExpression.element.Goals as goal
 
@@ -22,11 +17,10 @@ returns c =
     let low = narrow c.args.low in
     let high = narrow c.args.high in
     let new : PlainIndex = record { low = low; high = high; size = c.args.size; plus = 0; value = term c.args.value } in
-    let item : Index-F Application Operand Index PlaceExpression Term = record { low = low; high = high; size = c.args.size; plus = 0; value = c.args.value } in
     let pushed : map index c.push_exactly.new.list.items ≡ is ++ new ∷ [] =
     ap (map index) c.in_ok-push_exactly.ensures
-    ∙ map-append index s.indices.items (roll-Index item ∷ [])
-    ∙ ap (λ x. is ++ x ∷ []) (index_rolled low high c.args.size 0 c.args.value) in
+    ∙ map-append index s.indices.items (c.new.result ∷ [])
+    ∙ ap (λ x. is ++ x ∷ []) c.new.ensures in
     place_expression_rolled s.root _
     ∙ (ap (elements_of of) pushed
     ∙ (elements_more of is new

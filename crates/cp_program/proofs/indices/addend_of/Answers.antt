@@ -1,7 +1,7 @@
 use Rattle.std.proofs.Common.{◌≡◌, ap, sym, subst, ◌∙◌, ◌∷◌, [], IfSome, map}
 use Rattle.cp_program.specs.View as view
 use Rattle.cp_program.proofs.Found.{one}
-use Rattle.cp_program.proofs.elements.addend_of.Goals as goal
+use Rattle.cp_program.proofs.indices.addend_of.Goals as goal
 
 pub returns-in-len1 : goal.returns-in-len1
 returns-in-len1 c e =
