@@ -4,7 +4,7 @@ use Rattle.std.specs.Prelude.{◌⊎◌, min, nat_le as leb, FitsSigned}
 use Rattle.std.proofs.lemmas.Bool.Decides.{leb_tells}
 use Rattle.std.specs.Int.{w32}
 use Rattle.std.proofs.lemmas.Int.{to_z-of_z}
-use Rattle.std.proofs.lemmas.List.{get_or-set_other, get_or_past, length-append, length-set, set-append_left, set-append_right, set_comm, set_past}
+use Rattle.std.proofs.lemmas.List.{get_or-append_right as get_or_append_right, get_or_append_left, get_or-set_other, get_or_past, length-append, length-set, set-append_left, set-append_right, set_comm, set_past}
 use Rattle.cp_model_program.specs.Starts.{block, fill, paste, repeat_block, word}
 use Rattle.cp_program.specs.Reaches.{cap_place}
 
@@ -111,7 +111,7 @@ paste_set (n ∷ ns) ws to at x h =
     next (inl h) = inl (omega arith)
     next (inr h) = inr (omega arith)
 
-length-block : (k from : ℕ) (ws : List ℤ) → length (block ws from k) ≡ k
+pub length-block : (k from : ℕ) (ws : List ℤ) → length (block ws from k) ≡ k
 length-block zero from ws = refl
 length-block (suc k) from ws = ap suc (length-block k (suc from) ws)
 
@@ -220,6 +220,39 @@ copied_capped ws to from i j count small toward away =
         let near : i < 2 ^ 32 = h.1 in
         let same : to ≡ i = omega arith in
         ap (λ k. paste k (block ws j count) ws) same
+
+-- ---- Words of the first or the second of two lists
+
+word_left : (own shared : List ℤ) (at : ℕ) → at < length own → word (own ++ shared) at ≡ word own at
+word_left own shared at h = get_or_append_left own shared (pos 0) at h
+
+pub block_left : (k from : ℕ) (own shared : List ℤ) → from + k ≤ length own → block (own ++ shared) from k ≡ block own from k
+block_left zero from own shared h = refl
+block_left (suc k) from own shared h =
+    λ i. word_left own shared from (omega (arith, h)) i ∷ block_left k (suc from) own shared (omega (arith, h)) i
+
+pub block_right : (k from : ℕ) (own shared : List ℤ) → length own ≤ from → block (own ++ shared) from k ≡ block shared (from - length own) k
+block_right zero from own shared h = refl
+block_right (suc k) from own shared h =
+    let next : suc from - length own ≡ suc (from - length own) = omega (arith, h) in
+    (λ i. get_or_append_right own shared (length own) from (pos 0) refl h i ∷ block_right k (suc from) own shared (omega (arith, h)) i)
+    ∙ ap (λ n. word shared (from - length own) ∷ block shared n k) next
+
+pub paste_left : (ns : List ℤ) (to : ℕ) (own shared : List ℤ) → to + length ns ≤ length own
+    → paste to ns (own ++ shared) ≡ paste to ns own ++ shared
+paste_left [] to own shared h = refl
+paste_left (n ∷ ns) to own shared h =
+    ap (paste (suc to) ns) (set-append_left own shared to n (omega (arith, h)))
+    ∙ paste_left ns (suc to) (slice_set own to n) shared (omega (arith, length-set own to n, h))
+
+pub paste_right : (ns : List ℤ) (to : ℕ) (own shared : List ℤ) → length own ≤ to
+    → paste to ns (own ++ shared) ≡ own ++ paste (to - length own) ns shared
+paste_right [] to own shared h = refl
+paste_right (n ∷ ns) to own shared h =
+    let next : suc to - length own ≡ suc (to - length own) = omega (arith, h) in
+    ap (paste (suc to) ns) (set-append_right own shared (length own) to n refl h)
+    ∙ paste_right ns (suc to) own (slice_set shared (to - length own) n) (omega (arith, h))
+    ∙ ap (λ k. own ++ paste k ns (slice_set shared (to - length own) n)) next
 
 -- ---- Repeats
 

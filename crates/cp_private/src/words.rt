@@ -67,7 +67,8 @@ pub(crate) fn fill(own: &mut [i32], shared: &mut [i32], at: usize, count: usize,
     }
 }
 
-// Copies from the first word on, which is right if the words move down.
+// Copies words that may be own or shared ones, or missing, from the first word on, which is right
+// if they move down.
 fn copy_down(own: &mut [i32], shared: &mut [i32], to: usize, from: usize, count: usize)
     requires words { length own.old + length shared.old < 2 ^ 32 }
     requires there { to + count ≤ length own.old + length shared.old }
@@ -83,7 +84,7 @@ fn copy_down(own: &mut [i32], shared: &mut [i32], to: usize, from: usize, count:
     }
 }
 
-// Copies from the last word on, which is right if the words move up.
+// Copies such words from the last one on, which is right if they move up.
 fn copy_up(own: &mut [i32], shared: &mut [i32], to: usize, from: usize, count: usize)
     requires words { length own.old + length shared.old < 2 ^ 32 }
     requires there { to + count ≤ length own.old + length shared.old }
@@ -99,6 +100,78 @@ fn copy_up(own: &mut [i32], shared: &mut [i32], to: usize, from: usize, count: u
     }
 }
 
+// Copies words of one list from the first word on, which is right if they move down.
+fn move_down(words: &mut [i32], to: usize, from: usize, count: usize)
+    requires there { from + count ≤ length words.old }
+    requires down { to ≤ from }
+    ensures { words.new ≡ plain.paste to (plain.block words.old from count) words.old }
+{
+    for i in 0..count {
+        words[to + i] = words[from + i];
+    }
+}
+
+// Copies words of one list from the last word on, which is right if they move up.
+fn move_up(words: &mut [i32], to: usize, from: usize, count: usize)
+    requires there { to + count ≤ length words.old }
+    requires up { from ≤ to }
+    ensures { words.new ≡ plain.paste to (plain.block words.old from count) words.old }
+{
+    for i in (0..count).rev() {
+        words[to + i] = words[from + i];
+    }
+}
+
+// Copies words of one list.
+fn move_within(words: &mut [i32], to: usize, from: usize, count: usize)
+    requires to { to + count ≤ length words.old }
+    requires from { from + count ≤ length words.old }
+    ensures { words.new ≡ plain.paste to (plain.block words.old from count) words.old }
+{
+    if to <= from {
+        move_down(words, to, from, count);
+    } else {
+        move_up(words, to, from, count);
+    }
+}
+
+/// Copies `count` words from `source` into `words`.
+pub(crate) fn bring(words: &mut [i32], to: usize, source: &[i32], from: usize, count: usize)
+    requires { from < 2 ^ 33 }
+    ensures { words.new ≡ plain.paste to (plain.block source.now from count) words.old }
+{
+    let there = count.min(words.len().saturating_sub(to));
+    for i in 0..there {
+        words[to + i] = word(source, from + i);
+    }
+}
+
+// Copies words, of which there are `count` at `to`.
+fn copy_there(own: &mut [i32], shared: &mut [i32], to: usize, from: usize, count: usize)
+    requires words { length own.old + length shared.old < 2 ^ 32 }
+    requires there { to + count ≤ length own.old + length shared.old }
+    ensures words { own.new ++ shared.new ≡ plain.paste to
+        (plain.block (own.old ++ shared.old) from count) (own.old ++ shared.old) }
+    ensures own { length own.new ≡ length own.old }
+    ensures shared { length shared.new ≡ length shared.old }
+{
+    // Most words are own words in both places, or are own words here and shared ones there.
+    let first = own.len();
+    let to_end = to + count;
+    let from_end = from.saturating_add(count);
+    if to_end <= first && from_end <= first {
+        move_within(own, to, from, count);
+    } else if first <= to && from_end <= first {
+        bring(shared, to - first, own, from, count);
+    } else if to_end <= first && first <= from && from_end <= first + shared.len() {
+        bring(own, to, shared, from - first, count);
+    } else if to <= from {
+        copy_down(own, shared, to, from, count);
+    } else {
+        copy_up(own, shared, to, from, count);
+    }
+}
+
 /// Copies `count` words, as if all were read before the first one is written.
 pub(crate) fn copy(own: &mut [i32], shared: &mut [i32], to: usize, from: usize, count: usize)
     requires { length own.old + length shared.old < 2 ^ 32 }
@@ -109,13 +182,8 @@ pub(crate) fn copy(own: &mut [i32], shared: &mut [i32], to: usize, from: usize, 
 {
     let all = own.len() + shared.len();
     let there = count.min(all.saturating_sub(to));
-    if there == 0 {
-        return;
-    }
-    if to <= from {
-        copy_down(own, shared, to, from, there);
-    } else {
-        copy_up(own, shared, to, from, there);
+    if there != 0 {
+        copy_there(own, shared, to, from, there);
     }
 }
 
@@ -140,16 +208,5 @@ pub(crate) fn repeat(own: &mut [i32], shared: &mut [i32], at: usize, size: usize
         }
         copy(own, shared, from + size, from, size);
         from += size;
-    }
-}
-
-/// Copies `count` words from `source` into the process's own words.
-pub(crate) fn bring(own: &mut [i32], to: usize, source: &[i32], from: usize, count: usize)
-    requires { from < 2 ^ 33 }
-    ensures { own.new ≡ plain.paste to (plain.block source.now from count) own.old }
-{
-    let there = count.min(own.len().saturating_sub(to));
-    for i in 0..there {
-        own[to + i] = word(source, from + i);
     }
 }

@@ -7,7 +7,7 @@ use Rattle.cp_private.proofs.words.bring.Goals as goal
 
 pub loop-i-preserved : goal.loop-i-preserved
 loop-i-preserved c =
-    let ws = c.loop-i.own in
+    let ws = c.loop-i.words in
     let source = c.args.source.now in
     let i = c.loop-i.i in
     let to = c.args.to in
@@ -20,5 +20,5 @@ loop-i-preserved c =
 
 pub returns : goal.returns
 returns c =
-    let ended : c.loop-i.i < min c.args.count (length c.loop-i.own - c.args.to) → ⊥ = λ h. omega arith in
-    sym (brought_all c.args.source.now c.loop-i.own c.args.to c.args.from c.loop-i.i c.args.count ended) ∙ c.loop-i.invariant
+    let ended : c.loop-i.i < min c.args.count (length c.loop-i.words - c.args.to) → ⊥ = λ h. omega arith in
+    sym (brought_all c.args.source.now c.loop-i.words c.args.to c.args.from c.loop-i.i c.args.count ended) ∙ c.loop-i.invariant
