@@ -27,6 +27,15 @@ use cp_model::tree::{Designator, Expression};
 use cp_program::operation::Operation;
 use std::alloc::AllocError;
 
+// The variable of an assignment: its place expression, the calls of its place, and the place
+// `origin` of the text that names it.
+#[derive(Drop)]
+struct Assigned {
+    to: MadePlaceExpression,
+    calls: Vec<CodedCall>,
+    origin: usize,
+}
+
 impl<'s, 't> Translator<'s, 't> {
     // Whether a name is that of the running function, and not that of one of its parameters or
     // variables.
@@ -77,49 +86,54 @@ impl<'s, 't> Translator<'s, 't> {
         emitter.emit(calls, set, designator.root.at)
     }
 
-    // Emits an assignment to a variable of a simple type. `calls` has the calls of its place.
+    // Emits an assignment to a variable of a simple type.
     fn set_simple(
         &self,
-        to: MadePlaceExpression,
+        variable: Assigned,
         simple: Simple,
         expression: &Expression,
-        calls: Vec<CodedCall>,
         next: u32,
-        origin: usize,
         emitter: &mut Emitter,
     ) -> Result<u32, AllocError>
-        ensures { IfOk result (λ entry. (s : code.Scope) (c : CodedPlaceExpression) (f : CodedPlaceExpression)
-            → IsScope self.now.scope s → IsPlaceExpression [] calls.items to c
+        ensures { IfOk result (λ entry. (s : code.Scope) (c : CodedPlaceExpression)
+            (f : CodedPlaceExpression) → IsScope self.now.scope s
+            → IsPlaceExpression [] variable.calls.items variable.to c
             → Enters emitter.old emitter.new entry (coded.store s.globals (simple_of simple.entry) c
-            (coded_term s (erase.expression (tree.expression expression.now)) to.temps) f
+            (coded_term s (erase.expression (tree.expression expression.now)) variable.to.temps) f
             (place_of emitter.old) next)) }
     {
-        let mut calls = calls;
+        let Assigned {
+            to,
+            mut calls,
+            origin,
+        } = variable;
         let made = self.term(expression, to.temps, &mut calls)?;
         let bounds = simple_bounds(simple);
         let set = Operation::set(to.place_expression, made.term, bounds, next);
         emitter.emit(calls, set, origin)
     }
 
-    // Emits a copy to a variable whose type isn't simple. `calls` has the calls of its place.
+    // Emits a copy to a variable whose type isn't simple.
     fn copy_words(
         &self,
-        to: MadePlaceExpression,
+        variable: Assigned,
         expression: &Expression,
-        calls: Vec<CodedCall>,
         next: u32,
-        origin: usize,
         emitter: &mut Emitter,
     ) -> Result<u32, AllocError>
-        ensures { IfOk result (λ entry. (s : code.Scope) (c : CodedPlaceExpression) (t : ResolvedType)
-            (f : CodedTerm) → IsScope self.now.scope s
-            → TypeIs self.now.scope.tables.now.types to.of t → is_simple t ≡ false
-            → IsPlaceExpression [] calls.items to c
+        ensures { IfOk result (λ entry. (s : code.Scope) (c : CodedPlaceExpression)
+            (t : ResolvedType) (f : CodedTerm) → IsScope self.now.scope s
+            → TypeIs self.now.scope.tables.now.types variable.to.of t → is_simple t ≡ false
+            → IsPlaceExpression [] variable.calls.items variable.to c
             → Enters emitter.old emitter.new entry (coded.store s.globals t c f
-            (coded_variable s (erase.expression (tree.expression expression.now)) to.temps)
+            (coded_variable s (erase.expression (tree.expression expression.now)) variable.to.temps)
             (place_of emitter.old) next)) }
     {
-        let mut calls = calls;
+        let Assigned {
+            to,
+            mut calls,
+            origin,
+        } = variable;
         let size = self.place_words(to.of)?;
         let from = self.argument_place_expression(expression, to.temps, &mut calls)?;
         let copy = Operation::CopyWords {
@@ -150,17 +164,15 @@ impl<'s, 't> Translator<'s, 't> {
     {
         let mut calls = Vec::new(self.alloc);
         let to = self.place_expression(designator, low, &mut calls)?;
-        match self.scope.tables().types.simple(to.of) {
-            Some(simple) => self.set_simple(
-                to,
-                simple,
-                expression,
-                calls,
-                next,
-                designator.root.at,
-                emitter,
-            ),
-            None => self.copy_words(to, expression, calls, next, designator.root.at, emitter),
+        let simple = self.scope.tables().types.simple(to.of);
+        let variable = Assigned {
+            to,
+            calls,
+            origin: designator.root.at,
+        };
+        match simple {
+            Some(simple) => self.set_simple(variable, simple, expression, next, emitter),
+            None => self.copy_words(variable, expression, next, emitter),
         }
     }
 

@@ -25,7 +25,7 @@ ghost use Rattle.cp_compile_lower.specs.Translated.{AreArguments, IsArgument};
 use crate::arguments::simple_value;
 use crate::components::{member_at, right_at};
 use crate::made::{MadeArgument, MadeArguments, no_arguments};
-use crate::translator::Translator;
+use crate::translator::{StatementContext, Translator};
 use cp_compile_emit::{CodedCall, Emitter};
 use cp_compile_symbols::{Component, Declared, SystemTable, small_number, small_sum};
 use cp_model::tree::{Expression, InitItem, Sort};
@@ -194,17 +194,16 @@ impl<'s, 't> Translator<'s, 't> {
         &self,
         component: Component,
         es: &[Expression],
-        low: u32,
-        next: u32,
-        origin: usize,
+        context: StatementContext,
         emitter: &mut Emitter,
     ) -> Result<u32, AllocError>
         ensures { IfOk result (λ entry. (s : code.Scope) (n : components.Component)
             → IsScope self.now.scope s → Names self.now.scope s component.entry n
             → Enters emitter.old emitter.new entry (coded.init_by s
-            (erase.expressions (tree.expressions_of (map tree.expression es.now))) low
-            (place_of emitter.old) next (Some n))) }
+            (erase.expressions (tree.expressions_of (map tree.expression es.now))) context.low
+            (place_of emitter.old) context.next (Some n))) }
     {
+        let StatementContext { low, next, origin } = context;
         let Some(table) = self.system_table(&component) else {
             return Ok(next);
         };
@@ -230,7 +229,8 @@ impl<'s, 't> Translator<'s, 't> {
             None => Ok(next),
             Some(component) => {
                 let origin = item.component.at;
-                self.init_component(component, &item.arguments, low, next, origin, emitter)
+                let context = StatementContext { low, next, origin };
+                self.init_component(component, &item.arguments, context, emitter)
             }
         }
     }

@@ -21,7 +21,7 @@ ghost use Rattle.cp_compile_lower.specs.Statements.{Enters, StatementOf};
 
 use crate::calls::words_before;
 use crate::standard::lone_name;
-use crate::translator::Translator;
+use crate::translator::{StatementContext, Translator};
 use crate::types::bounds_of;
 use cp_compile_emit::{CodedCall, Emitter};
 use cp_compile_symbols::{Base, Callee};
@@ -42,17 +42,17 @@ impl<'s, 't> Translator<'s, 't> {
     fn display(
         &self,
         expression: &Expression,
-        low: u32,
-        next: u32,
-        origin: usize,
+        context: StatementContext,
         emitter: &mut Emitter,
     ) -> Result<u32, AllocError>
         ensures { IfOk result (λ entry. (s : code.Scope) → IsScope self.now.scope s
-            → let x = erase.expression (tree.expression expression.now) in let c = coded_term s x low in
+            → let x = erase.expression (tree.expression expression.now) in
+            let c = coded_term s x context.low in
             Enters emitter.old emitter.new entry (with_calls c.calls (op.Display c.term
-            (coded.is_char (base_of_type (expression_type (environment s) x))) next)
+            (coded.is_char (base_of_type (expression_type (environment s) x))) context.next)
             (place_of emitter.old))) }
     {
+        let StatementContext { low, next, origin } = context;
         let mut calls = Vec::new(self.alloc);
         let made = self.term(expression, low, &mut calls)?;
         let display = Operation::Display {
@@ -83,17 +83,17 @@ impl<'s, 't> Translator<'s, 't> {
     fn accept(
         &self,
         expression: &Expression,
-        low: u32,
-        next: u32,
-        origin: usize,
+        context: StatementContext,
         emitter: &mut Emitter,
     ) -> Result<u32, AllocError>
         ensures { IfOk result (λ entry. (s : code.Scope) → IsScope self.now.scope s
-            → let x = erase.expression (tree.expression expression.now) in let c = coded_variable s x low in
+            → let x = erase.expression (tree.expression expression.now) in
+            let c = coded_variable s x context.low in
             let t = expression_type (environment s) x in Enters emitter.old emitter.new entry
-            (with_calls c.calls (op.Accept c.place_expression (coded.low_of t) (coded.high_of t) next)
-            (place_of emitter.old))) }
+            (with_calls c.calls (op.Accept c.place_expression (coded.low_of t) (coded.high_of t)
+            context.next) (place_of emitter.old))) }
     {
+        let StatementContext { low, next, origin } = context;
         let bounds = bounds_of(self.scope.expression_type(expression)?);
         let (to, calls) = self.passed_place_expression(expression, low)?;
         let accept = Operation::Accept { to, bounds, next };
@@ -104,16 +104,16 @@ impl<'s, 't> Translator<'s, 't> {
     fn delay(
         &self,
         expression: &Expression,
-        low: u32,
-        next: u32,
-        origin: usize,
+        context: StatementContext,
         emitter: &mut Emitter,
     ) -> Result<u32, AllocError>
         ensures { IfOk result (λ entry. (s : code.Scope) → IsScope self.now.scope s
-            → let c = coded_variable s (erase.expression (tree.expression expression.now)) low in
-            Enters emitter.old emitter.new entry
-            (with_calls c.calls (op.Delay c.place_expression next) (place_of emitter.old))) }
+            → let x = erase.expression (tree.expression expression.now) in
+            let c = coded_variable s x context.low in
+            Enters emitter.old emitter.new entry (with_calls c.calls
+            (op.Delay c.place_expression context.next) (place_of emitter.old))) }
     {
+        let StatementContext { low, next, origin } = context;
         let (queue, calls) = self.passed_place_expression(expression, low)?;
         emitter.emit(calls, Operation::Delay { queue, next }, origin)
     }
@@ -153,25 +153,23 @@ impl<'s, 't> Translator<'s, 't> {
         &self,
         name: &[u8],
         expression: &Expression,
-        low: u32,
-        next: u32,
-        origin: usize,
+        context: StatementContext,
         emitter: &mut Emitter,
     ) -> Result<u32, AllocError>
         ensures { IfOk result (λ entry. (s : code.Scope) → IsScope self.now.scope s
             → let x = erase.expression (tree.expression expression.now) in
             Enters emitter.old emitter.new entry (coded.standard_procedure s name.now
-            (expression_type (environment s) x) (coded_term s x low) (coded_variable s x low)
-            (place_of emitter.old) next)) }
+            (expression_type (environment s) x) (coded_term s x context.low)
+            (coded_variable s x context.low) (place_of emitter.old) context.next)) }
     {
         if name == b"display".as_slice() {
-            self.display(expression, low, next, origin, emitter)
+            self.display(expression, context, emitter)
         } else if name == b"accept".as_slice() {
-            self.accept(expression, low, next, origin, emitter)
+            self.accept(expression, context, emitter)
         } else if name == b"delay".as_slice() {
-            self.delay(expression, low, next, origin, emitter)
+            self.delay(expression, context, emitter)
         } else {
-            self.resume(expression, low, origin, emitter)
+            self.resume(expression, context.low, context.origin, emitter)
         }
     }
 
@@ -180,19 +178,20 @@ impl<'s, 't> Translator<'s, 't> {
         &self,
         name: &[u8],
         es: &[Expression],
-        low: u32,
-        next: u32,
-        origin: usize,
+        context: StatementContext,
         emitter: &mut Emitter,
     ) -> Result<u32, AllocError>
         ensures { IfOk result (λ entry. (s : code.Scope) → IsScope self.now.scope s
             → Enters emitter.old emitter.new entry (coded.standard_statement s name.now
-            (erase.expressions (tree.expressions_of (map tree.expression es.now))) low
-            (place_of emitter.old) next)) }
+            (erase.expressions (tree.expressions_of (map tree.expression es.now))) context.low
+            (place_of emitter.old) context.next)) }
     {
         match es {
-            [] => emitter.emit(Vec::new(self.alloc), Operation::Wait { next }, origin),
-            [e, ..] => self.standard_procedure(name, e, low, next, origin, emitter),
+            [] => {
+                let wait = Operation::Wait { next: context.next };
+                emitter.emit(Vec::new(self.alloc), wait, context.origin)
+            }
+            [e, ..] => self.standard_procedure(name, e, context, emitter),
         }
     }
 
@@ -201,17 +200,16 @@ impl<'s, 't> Translator<'s, 't> {
         &self,
         called: &Callee,
         es: &[Expression],
-        low: u32,
-        next: u32,
-        origin: usize,
+        context: StatementContext,
         emitter: &mut Emitter,
     ) -> Result<u32, AllocError>
         ensures { IfOk result (λ entry. (s : code.Scope) (d : a.Designator) (c : model.Callee)
             → IsScope self.now.scope s → IsCallee self.now.scope s called.now c
             → Enters emitter.old emitter.new entry (coded.perform_by s d
-            (erase.expressions (tree.expressions_of (map tree.expression es.now))) low
-            (place_of emitter.old) next (Some c))) }
+            (erase.expressions (tree.expressions_of (map tree.expression es.now))) context.low
+            (place_of emitter.old) context.next (Some c))) }
     {
+        let StatementContext { low, next, origin } = context;
         let table = called.routine.table;
         let mut calls = Vec::new(self.alloc);
         let at = words_before(table);
@@ -233,23 +231,11 @@ impl<'s, 't> Translator<'s, 't> {
             (a.Perform (erase.designator (tree.designator designator.now))
             (erase.expressions (tree.expressions_of (map tree.expression es.now)))) low next) }
     {
+        let origin = designator.root.at;
+        let context = StatementContext { low, next, origin };
         match self.scope.callee(designator) {
-            Some(called) => self.procedure_call(
-                &called,
-                es,
-                low,
-                next,
-                designator.root.at,
-                emitter,
-            ),
-            None => self.standard_statement(
-                lone_name(designator),
-                es,
-                low,
-                next,
-                designator.root.at,
-                emitter,
-            ),
+            Some(called) => self.procedure_call(&called, es, context, emitter),
+            None => self.standard_statement(lone_name(designator), es, context, emitter),
         }
     }
 }

@@ -1,4 +1,4 @@
-//! What code is translated with.
+//! What code is translated with, and where it is emitted.
 
 use cp_compile_symbols::Scope;
 use std::alloc::Global;
@@ -10,4 +10,13 @@ pub struct Translator<'s, 't> {
     pub scope: Scope<'s, 't>,
     pub alloc: Global,
     pub origin: usize,
+}
+
+/// Where the operation of a statement is emitted: temps are free from `low` on, the operation leads
+/// to the place `next`, and it comes from the place `origin` of the text.
+#[derive(Clone, Copy)]
+pub(crate) struct StatementContext {
+    pub(crate) low: u32,
+    pub(crate) next: u32,
+    pub(crate) origin: usize,
 }

@@ -16,11 +16,11 @@ returns c =
     (λ place at emits s scope.
     let e = erase.expression (tree.expression c.args.expression.now) in
     let t = expression_type (environment s) e in
-    let d = coded_variable s e c.args.low in
+    let d = coded_variable s e c.args.context.low in
     let passed = c.in_ok-to.ensures s scope in
     let of = c.in_ok-expression_type.ensures s scope in
     entered c.args.emitter.now c.emit.new.self place c.in_ok-to.calls.items d.calls
-    (operation.Accept c.in_ok-to.to c.bounds_of-bounds.result c.args.next) (op.Accept d.place_expression (low_of t) (high_of t) c.args.next)
+    (operation.Accept c.in_ok-to.to c.bounds_of-bounds.result c.args.context.next) (op.Accept d.place_expression (low_of t) (high_of t) c.args.context.next)
     passed.0
-    (λ i. op.Accept (passed.1 i) (c.bounds_of-bounds.ensures.low t of i) (c.bounds_of-bounds.ensures.high t of i) c.args.next) at emits)
+    (λ i. op.Accept (passed.1 i) (c.bounds_of-bounds.ensures.low t of i) (c.bounds_of-bounds.ensures.high t of i) c.args.context.next) at emits)
     c.emit.ensures.entry c.emit.ensures.emits

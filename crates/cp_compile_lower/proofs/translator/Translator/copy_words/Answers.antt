@@ -16,12 +16,12 @@ pub returns : goal.returns
 returns c =
     both_ok c.emit.result
     (λ place at emits s to t e scope type other there.
-    let d = coded_variable s (erase.expression (tree.expression c.args.expression.now)) c.args.to.temps in
+    let d = coded_variable s (erase.expression (tree.expression c.args.expression.now)) c.args.variable.to.temps in
     let made = c.in_ok-from.ensures s scope in
     let long = c.in_ok-size.ensures s t scope type in
     subst (Enters c.args.emitter.now c.emit.new.self place) (sym (copies s.globals t to e d (place_of c.args.emitter.now) c.args.next other))
     (entered c.args.emitter.now c.emit.new.self place c.argument_place_expression.new.calls.items (to.calls ++ d.calls)
-    (operation.CopyWords c.args.to.place_expression c.in_ok-from.from.place_expression c.in_ok-size.size c.args.next)
+    (operation.CopyWords c.args.variable.to.place_expression c.in_ok-from.from.place_expression c.in_ok-size.size c.args.next)
     (op.CopyWords to.place_expression d.place_expression (words s.globals t) c.args.next) (made.calls ∙ ap (λ cs. cs ++ d.calls) there.calls)
     (λ i. op.CopyWords (there.place_expression i) (made.place_expression i) (long i) c.args.next) at emits))
     c.emit.ensures.entry c.emit.ensures.emits

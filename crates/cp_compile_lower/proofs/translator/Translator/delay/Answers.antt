@@ -12,7 +12,7 @@ returns c =
     both_ok c.emit.result
     (λ place at emits s scope.
     let passed = c.in_ok-queue.ensures s scope in
-    let d = coded_variable s (erase.expression (tree.expression c.args.expression.now)) c.args.low in
-    entered c.args.emitter.now c.emit.new.self place c.in_ok-queue.calls.items d.calls (operation.Delay c.in_ok-queue.queue c.args.next)
-    (op.Delay d.place_expression c.args.next) passed.0 (λ i. op.Delay (passed.1 i) c.args.next) at emits)
+    let d = coded_variable s (erase.expression (tree.expression c.args.expression.now)) c.args.context.low in
+    entered c.args.emitter.now c.emit.new.self place c.in_ok-queue.calls.items d.calls (operation.Delay c.in_ok-queue.queue c.args.context.next)
+    (op.Delay d.place_expression c.args.context.next) passed.0 (λ i. op.Delay (passed.1 i) c.args.context.next) at emits)
     c.emit.ensures.entry c.emit.ensures.emits

@@ -18,11 +18,11 @@ returns c =
     (λ place at emits s scope.
     let made = rw c.new-calls.ensures.items at (c.in_ok-made.ensures s scope) in
     let e = erase.expression (tree.expression c.args.expression.now) in
-    let d = coded_term s e c.args.low in
+    let d = coded_term s e c.args.context.low in
     let byte : c.is_char.result ≡ is_char (base_of_type (expression_type (environment s) e)) =
     c.is_char.ensures ∙ ap is_char (c.in_ok-base.ensures s scope) in
     entered c.args.emitter.now c.emit.new.self place c.term.new.calls.items d.calls
-    (operation.Display c.in_ok-made.made.term c.is_char.result c.args.next)
-    (op.Display d.term (is_char (base_of_type (expression_type (environment s) e))) c.args.next) made.calls
-    (λ i. op.Display (made.term i) (byte i) c.args.next) at emits)
+    (operation.Display c.in_ok-made.made.term c.is_char.result c.args.context.next)
+    (op.Display d.term (is_char (base_of_type (expression_type (environment s) e))) c.args.context.next) made.calls
+    (λ i. op.Display (made.term i) (byte i) c.args.context.next) at emits)
     c.emit.ensures.entry c.emit.ensures.emits

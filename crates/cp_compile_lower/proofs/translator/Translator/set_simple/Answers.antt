@@ -13,7 +13,7 @@ returns c =
     (λ place at emits s to f scope there.
     let x = c.args.simple in
     let bounds = c.simple_bounds-bounds.ensures in
-    let d = coded_term s (erase.expression (tree.expression c.args.expression.now)) c.args.to.temps in
+    let d = coded_term s (erase.expression (tree.expression c.args.expression.now)) c.args.variable.to.temps in
     let made = c.in_ok-made.ensures s scope in
     entered c.args.emitter.now c.emit.new.self place c.term.new.calls.items (to.calls ++ d.calls)
     c.set-set.result (op.Set to.place_expression x.low x.high d.term c.args.next)

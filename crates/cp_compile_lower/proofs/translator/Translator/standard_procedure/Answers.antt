@@ -19,7 +19,7 @@ returns-then-eq c =
     if_ok c.display.result
     (λ entry h s scope.
     subst (Enters old c.display.new.emitter entry)
-    (sym (displays s c.args.name.now (expression_type (environment s) e) (coded_term s e c.args.low) (coded_variable s e c.args.low) (place_of old) c.args.next display_known))
+    (sym (displays s c.args.name.now (expression_type (environment s) e) (coded_term s e c.args.context.low) (coded_variable s e c.args.context.low) (place_of old) c.args.context.next display_known))
     (h s scope))
     c.display.ensures
 
@@ -32,7 +32,7 @@ returns-then-eq-2 c =
     if_ok c.accept.result
     (λ entry h s scope.
     subst (Enters old c.accept.new.emitter entry)
-    (sym (accepts s c.args.name.now (expression_type (environment s) e) (coded_term s e c.args.low) (coded_variable s e c.args.low) (place_of old) c.args.next display_known accept_known))
+    (sym (accepts s c.args.name.now (expression_type (environment s) e) (coded_term s e c.args.context.low) (coded_variable s e c.args.context.low) (place_of old) c.args.context.next display_known accept_known))
     (h s scope))
     c.accept.ensures
 
@@ -46,7 +46,7 @@ returns-then-eq-3 c =
     if_ok c.delay.result
     (λ entry h s scope.
     subst (Enters old c.delay.new.emitter entry)
-    (sym (delays s c.args.name.now (expression_type (environment s) e) (coded_term s e c.args.low) (coded_variable s e c.args.low) (place_of old) c.args.next display_known accept_known delay_known))
+    (sym (delays s c.args.name.now (expression_type (environment s) e) (coded_term s e c.args.context.low) (coded_variable s e c.args.context.low) (place_of old) c.args.context.next display_known accept_known delay_known))
     (h s scope))
     c.delay.ensures
 
@@ -60,6 +60,6 @@ returns-else-eq-3 c =
     if_ok c.resume.result
     (λ entry h s scope.
     subst (Enters old c.resume.new.emitter entry)
-    (sym (continues s c.args.name.now (expression_type (environment s) e) (coded_term s e c.args.low) (coded_variable s e c.args.low) (place_of old) c.args.next display_known accept_known delay_known))
+    (sym (continues s c.args.name.now (expression_type (environment s) e) (coded_term s e c.args.context.low) (coded_variable s e c.args.context.low) (place_of old) c.args.context.next display_known accept_known delay_known))
     (h s scope))
     c.resume.ensures

@@ -16,6 +16,6 @@ returns-in-len1-up c =
     (λ entry h s scope.
     subst
     (λ xs. Enters old c.standard_procedure.new.emitter entry
-    (standard_statement s c.args.name.now (erase.expressions (tree.expressions_of (map tree.expression xs))) c.args.low (place_of old) c.args.next))
+    (standard_statement s c.args.name.now (erase.expressions (tree.expressions_of (map tree.expression xs))) c.args.context.low (place_of old) c.args.context.next))
     (sym split) (h s scope))
     c.standard_procedure.ensures

@@ -19,7 +19,7 @@ returns-in-Some c =
     let to = coded_place_expression s d c.args.low in
     let t = place_type (environment s) d in
     let place = rw c.new-calls.ensures.items at (c.in_ok-to.ensures s scope) in
-    let same = (rw (c.tables.ensures, c.in-Some.is) at c.simple.ensures) t place.typed in
+    let same = (rw (c.tables.ensures, c.in-Some.is) at c.simple-simple.ensures) t place.typed in
     stored c.args.emitter.now c.set_simple.new.emitter entry s.globals (place_of c.args.emitter.now) c.args.next to (coded_term s e) (coded_variable s e)
     c.in_ok-to.to.temps t (simple_of c.in-Some.simple) place.place_expression.temps same (h s to (coded_variable s e c.in_ok-to.to.temps) scope place.place_expression))
     c.set_simple.ensures
@@ -33,7 +33,7 @@ returns-in-None c =
     let to = coded_place_expression s d c.args.low in
     let t = place_type (environment s) d in
     let place = rw c.new-calls.ensures.items at (c.in_ok-to.ensures s scope) in
-    let other = (rw (c.tables.ensures, c.in-None.is) at c.simple.ensures) t place.typed in
+    let other = (rw (c.tables.ensures, c.in-None.is) at c.simple-simple.ensures) t place.typed in
     stored c.args.emitter.now c.copy_words.new.emitter entry s.globals (place_of c.args.emitter.now) c.args.next to (coded_term s e) (coded_variable s e)
     c.in_ok-to.to.temps t t place.place_expression.temps refl (h s to t (coded_term s e c.in_ok-to.to.temps) scope place.typed other place.place_expression))
     c.copy_words.ensures
