@@ -2,7 +2,7 @@
 
 ghost use Rattle.std.specs.Prelude.{◌≡◌, IfErr, IfSome, OnOk};
 ghost use Rattle.std.specs.Io.KnownBytes.{Keeps};
-ghost use Rattle.cp_frontend.specs.KnownRefusals.{IsFaultOfAccepted, IsFaultOrOfInput, RefusesRun, RefusesText};
+ghost use Rattle.cp_frontend.specs.KnownRefusals.{IsBeforeWriting, IsFaultOfAccepted, IsFaultOrOfInput, RefusesRun, RefusesText};
 ghost use Rattle.cp_execute.specs.Executed.{Accepts, Begins, BeginsAcceptance, BeginsReport, Does, Refuses, RefusesAccepted, Reports, TakesInputFor};
 ghost use Rattle.cp_frontend.specs.Takings.{TakesInput, TakesText};
 ghost use Rattle.cp_frontend.specs.declared.refusal.Refusal.TheVariants as refusal;
@@ -33,9 +33,9 @@ fn check_text<R: Read, W: Write>(alloc: Global, text: &mut R, out: &mut W) -> Re
     ensures accepts { OnOk result
         (Accepts (R.remaining text.old) (W.contents out.old) (W.contents out.new)) }
     ensures unwritten { IfErr result
-        (λ e. (e ≡ refusal.Write → ⊥) → Keeps (W.contents out.old) (W.contents out.new)) }
+        (λ e. IsBeforeWriting e → Keeps (W.contents out.old) (W.contents out.new)) }
     ensures refused { IfErr result
-        (λ e. (e ≡ refusal.Write → ⊥) → IfSome (R.remaining text.old) (λ xs. RefusesText xs e)) }
+        (λ e. IsBeforeWriting e → IfSome (R.remaining text.old) (λ xs. RefusesText xs e)) }
     ensures beginning { IfErr result
         (λ e. e ≡ refusal.Write
         → BeginsAcceptance (R.remaining text.old) (W.contents out.old) (W.contents out.new)) }
@@ -60,9 +60,9 @@ fn run_text<H: Threads + Wait + Sync, R: Read, S: Read, W: Write, G: TurnGate>(
         (Reports run.now (R.remaining text.old) (S.remaining input.old) (W.contents out.old)
         (W.contents out.new)) }
     ensures unwritten { IfErr result
-        (λ e. (e ≡ refusal.Write → ⊥) → Keeps (W.contents out.old) (W.contents out.new)) }
+        (λ e. IsBeforeWriting e → Keeps (W.contents out.old) (W.contents out.new)) }
     ensures refused { IfErr result
-        (λ e. (e ≡ refusal.Write → ⊥)
+        (λ e. IsBeforeWriting e
         → IfSome (R.remaining text.old) (λ xs. RefusesRun xs (S.remaining input.old) e)) }
     ensures beginning { IfErr result
         (λ e. e ≡ refusal.Write
@@ -102,9 +102,9 @@ pub fn execute<H: Threads + Wait + Sync, R: Read, S: Read, W: Write, G: TurnGate
         (Does job.now (R.remaining text.old) (S.remaining input.old) (W.contents out.old)
         (W.contents out.new)) }
     ensures unwritten { IfErr result
-        (λ e. (e ≡ refusal.Write → ⊥) → Keeps (W.contents out.old) (W.contents out.new)) }
+        (λ e. IsBeforeWriting e → Keeps (W.contents out.old) (W.contents out.new)) }
     ensures refused { IfErr result
-        (λ e. (e ≡ refusal.Write → ⊥)
+        (λ e. IsBeforeWriting e
         → Refuses job.now (R.remaining text.old) (S.remaining input.old) e) }
     ensures beginning { IfErr result
         (λ e. e ≡ refusal.Write

@@ -4,6 +4,7 @@
 ghost use Rattle.std.specs.Prelude.{◌≡◌, IfErr, IfSome, OnOk};
 ghost use Rattle.std.specs.Io.KnownBytes.{Keeps};
 ghost use Rattle.cp_execute.specs.Replayed.{BeginsReplay, RefusesNoAccepted, RefusesReplay, Replays};
+ghost use Rattle.cp_frontend.specs.KnownRefusals.{IsBeforeWriting};
 ghost use Rattle.cp_frontend.specs.Takings.{TakesInput, TakesOrder, TakesText};
 ghost use Rattle.cp_frontend.specs.declared.refusal.Refusal.TheVariants as refusal;
 
@@ -38,9 +39,9 @@ pub fn execute_order<R: Read, S: Read, O: Read, W: Write>(
         (Replays replay.now (R.remaining text.old) (S.remaining input.old)
         (O.remaining order.old) (W.contents out.old) (W.contents out.new)) }
     ensures unwritten { IfErr result
-        (λ e. (e ≡ refusal.Write → ⊥) → Keeps (W.contents out.old) (W.contents out.new)) }
+        (λ e. IsBeforeWriting e → Keeps (W.contents out.old) (W.contents out.new)) }
     ensures refused { IfErr result
-        (λ e. (e ≡ refusal.Write → ⊥) → IfSome (R.remaining text.old)
+        (λ e. IsBeforeWriting e → IfSome (R.remaining text.old)
         (λ xs. RefusesReplay xs (S.remaining input.old) (O.remaining order.old) e)) }
     ensures beginning { IfErr result
         (λ e. e ≡ refusal.Write

@@ -3,7 +3,7 @@
 
 ghost use Rattle.std.specs.Prelude.{◌≡◌, IfErr, IfOk, IfSome};
 ghost use Rattle.std.specs.Io.KnownBytes.{Keeps};
-ghost use Rattle.cp_frontend.specs.KnownRefusals.{IsFaultOrOfInput, RefusesRun};
+ghost use Rattle.cp_frontend.specs.KnownRefusals.{IsBeforeWriting, IsFaultOrOfInput, RefusesRun};
 ghost use Rattle.cp_execute_observe.specs.Outcomes.{BeginsOutcome, ReportsOutcome};
 ghost use Rattle.cp_frontend.specs.Takings.{TakesInput, TakesText};
 ghost use Rattle.cp_frontend.specs.declared.refusal.Refusal.TheVariants as refusal;
@@ -47,9 +47,9 @@ pub fn execute_outcome<H: Threads + Wait + Sync, R: Read, S: Read, W: Write, G: 
         (λ verdict. ReportsOutcome how.now servers.now form.entry verdict (R.remaining text.old)
         (S.remaining input.old) (W.contents out.old) (W.contents out.new)) }
     ensures unwritten { IfErr result
-        (λ e. (e ≡ refusal.Write → ⊥) → Keeps (W.contents out.old) (W.contents out.new)) }
+        (λ e. IsBeforeWriting e → Keeps (W.contents out.old) (W.contents out.new)) }
     ensures refused { IfErr result
-        (λ e. (e ≡ refusal.Write → ⊥)
+        (λ e. IsBeforeWriting e
         → IfSome (R.remaining text.old) (λ xs. RefusesRun xs (S.remaining input.old) e)) }
     ensures beginning { IfErr result
         (λ e. e ≡ refusal.Write

@@ -1,13 +1,12 @@
 //! Traces: read and check a text, run it on an input, and write what became of its processes and
 //! monitors, round by round.
 
-ghost use Rattle.std.specs.Prelude.{◌≡◌, IfErr, IfOk, IfSome, OnOk};
+ghost use Rattle.std.specs.Prelude.{IfErr, IfOk, IfSome, OnOk};
 ghost use Rattle.std.specs.Io.KnownBytes.{Keeps};
-ghost use Rattle.cp_frontend.specs.KnownRefusals.{IsFaultOrOfInput, RefusesRun};
+ghost use Rattle.cp_frontend.specs.KnownRefusals.{IsBeforeWriting, IsFaultOrOfInput, RefusesRun};
 ghost use Rattle.cp_frontend.specs.Takings.{TakesInput, TakesText};
 ghost use Rattle.cp_execute_observe.specs.Writing.{Extends, IsMemoryOrWrite, WritesTrace};
 ghost use Rattle.cp_execute_observe.specs.Traces.{Traces};
-ghost use Rattle.cp_frontend.specs.declared.refusal.Refusal.TheVariants as refusal;
 
 use crate::tracing::machine_after_trace;
 use cp_base_config::trace::Tracing;
@@ -50,7 +49,7 @@ pub fn execute_trace<H: Threads + Wait + Sync, R: Read, S: Read, W: Write, G: Tu
     ensures unwritten { IfErr result
         (λ e. (IsMemoryOrWrite e → ⊥) → Keeps (W.contents out.old) (W.contents out.new)) }
     ensures refused { IfErr result
-        (λ e. (e ≡ refusal.Write → ⊥)
+        (λ e. IsBeforeWriting e
         → IfSome (R.remaining text.old) (λ xs. RefusesRun xs (S.remaining input.old) e)) }
     ensures faults { IfErr result
         (IsFaultOrOfInput (R.remaining text.old) (S.remaining input.old)) }

@@ -34,6 +34,10 @@ IsFault refusal.Read = Unit {0}
 IsFault refusal.Write = Unit {0}
 IsFault e = ⊥
 
+-- A refusal before anything is written: any but a write that failed.
+abbrev pub IsBeforeWriting : Refusal → Type 0
+IsBeforeWriting e = e ≡ refusal.Write → ⊥
+
 -- A known text that is accepted is refused only with a fault.
 abbrev pub IsFaultOfAccepted : Option (List ℕ) → Refusal → Type 0
 IsFaultOfAccepted text e = (xs : List ℕ) (t : s.Tree) → text ≡ Some xs → IsAccepted xs t → IsFault e
