@@ -74,7 +74,10 @@ impl<'t> ComponentTable<'t> {
         if number == 1 {
             return INITIAL;
         }
-        match self.processes.get((number as usize).saturating_sub(2)) {
+        let Some(index) = (number as usize).checked_sub(2) else {
+            return &[];
+        };
+        match self.processes.get(index) {
             Some(process) => process.name,
             None => &[],
         }

@@ -77,14 +77,19 @@ impl ProcessSnapshot {
 }
 
 impl StatusSnapshot {
-    /// The process with a number, if there is one. The number 0 is read as 1.
+    /// The process with a number, if there is one.
     pub(crate) fn process(&self, number: u32) -> Option<&ProcessSnapshot> {
-        self.processes.get((number as usize).saturating_sub(1))
+        self.processes.get((number as usize).checked_sub(1)?)
+    }
+
+    // The monitor with a number, if there is one.
+    fn monitor(&self, number: u32) -> Option<&MonitorSnapshot> {
+        self.monitors.get((number as usize).checked_sub(1)?)
     }
 
     /// The holder of the gate of the monitor with a number. The gate of a missing monitor is unset.
     pub(crate) fn holder_of(&self, number: u32) -> Holder {
-        match self.monitors.get((number as usize).saturating_sub(1)) {
+        match self.monitor(number) {
             Some(monitor) => monitor.holder,
             None => Holder::Unset,
         }
