@@ -11,7 +11,6 @@ use Rattle.cp_cli.specs.declared.command.Command.{Command}
 use Rattle.cp_cli.specs.declared.command.Command.TheVariants as command
 use Rattle.cp_cli.specs.declared.command.Inputs.TheVariants as inputs
 use Rattle.cp_base_config.specs.declared.limits.TheConstants.{MAX_WORKERS}
-use Rattle.cp_base_config.specs.declared.run.Replay.{Replay}
 use Rattle.cp_base_config.specs.declared.run.Run.{Run}
 
 -- The run has these numbers: rounds, turn, workers, chunk, wave, tick, and chains or not.
@@ -20,12 +19,8 @@ Has rounds turn workers chunk wave tick chains run =
     (run.rounds ≡ rounds) × (run.plan.turn.steps ≡ turn) × (run.plan.workers ≡ workers) × (run.plan.chunk ≡ chunk) × (run.plan.wave ≡ wave) × (run.tick.rounds ≡ tick)
     × (run.chains ≡ chains)
 
--- The replay has these numbers: turn, tick, and chains or not.
-abbrev pub HasReplay : ℕ → ℕ → Bool → Replay → Type 0
-HasReplay turn tick chains replay = (replay.turn.steps ≡ turn) × (replay.tick.rounds ≡ tick) × (replay.chains ≡ chains)
-
--- A run has at most so many rounds, and so have one until nothing can move and one that is traced. A
--- search has limits and workers within their ranges.
+-- A run has at most so many rounds, and so have one until nothing can move and one that is traced,
+-- whose first round is within its range. A search has limits and workers within their ranges.
 abbrev pub IsInRange : Command → Type 0
 IsInRange command.Version = Unit {0}
 IsInRange (command.Completions shell) = Unit {0}
@@ -34,7 +29,7 @@ IsInRange (command.Explain file what) = Unit {0}
 IsInRange (command.ExplainRule page) = Unit {0}
 IsInRange (command.Run file run input progress) = run.rounds ≤ MAX_ROUNDS
 IsInRange (command.Outcome file how servers shown input progress) = how.limit ≤ MAX_ROUNDS
-IsInRange (command.Trace file how only input progress) = how.rounds ≤ MAX_ROUNDS
+IsInRange (command.Trace file how only input progress) = (how.rounds ≤ MAX_ROUNDS) × (1 ≤ how.from) × (how.from ≤ MAX_ROUNDS)
 IsInRange (command.Search file how servers save input progress) =
     (1 ≤ how.states) × (how.states ≤ MAX_OPTION_NUMBER) × (1 ≤ how.memory) × (how.memory ≤ MAX_ROUNDS) × (1 ≤ how.workers) × (how.workers ≤ MAX_WORKERS)
 IsInRange (command.Replay file order replay input) = Unit {0}

@@ -1,5 +1,6 @@
 //! The numbers that represent options that aren't given.
 
+use crate::numbers::MAX_ROUNDS;
 use cp_base_config::limits::MAX_CHUNK_PROCESSES;
 
 /// The rounds of a run.
@@ -7,6 +8,12 @@ pub const ROUNDS: u32 = 2;
 
 /// The most rounds that an outcome makes.
 pub const LIMIT: u32 = 10_000;
+
+/// The first round that a trace reports.
+pub const FROM: u32 = 1;
+
+/// The last round that a trace reports.
+pub const TO: u32 = MAX_ROUNDS;
 
 /// The steps of a turn.
 pub const TURN: u32 = 100;

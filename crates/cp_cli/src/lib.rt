@@ -8,7 +8,7 @@
 //! - `misuse`: what is wrong with words that the grammar accepts. `unknown`: what is meant by words
 //!   that it refuses.
 //!
-//! `specs/Commands.antt` and `specs/Numbers.antt` define what arguments mean.
+//! `specs/Commands.antt`, `specs/Options.antt` and `specs/Numbers.antt` define what arguments mean.
 #![tactic(auto)]
 
 mod arguments;

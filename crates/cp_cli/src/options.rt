@@ -1,8 +1,11 @@
-//! The values of options.
+//! The values of options. Each number is the one that the digits of its option mean, or a default
+//! (`specs/Options.antt`). Which value an option has is what clap's matches say: no clause ties it to
+//! the words of the command line, since clap has none for options that accept negative numbers.
 
-ghost use Rattle.std.specs.Prelude.{◌≡◌, ◌≤◌, IfOk};
-ghost use Rattle.cp_base_config.specs.Plans.{AreInRange, IsTick, IsTurn};
-ghost use Rattle.cp_cli.specs.Commands.{Has, HasReplay};
+ghost use Rattle.std.specs.Prelude.{◌≡◌, ◌≤◌, IfErr, IfOk, option_map};
+ghost use Rattle.clap.specs.Words.{first_of, found_of, rows_of};
+ghost use Rattle.cp_base_config.specs.Plans.{AreInRange, AreWorkers, IsTick, IsTurn};
+ghost use Rattle.cp_cli.specs.Options.{HasNumber, HasOutcome, HasPlan, HasReplay, HasRun, HasSearch, HasTick, HasTrace, HasTurn, HasWorkers, IsOutOfRange};
 
 use crate::command::Shown;
 use crate::defaults;
@@ -31,45 +34,52 @@ pub(crate) fn read_colours<'a>(matches: &ArgMatches<'a>) -> Result<Colours, Misu
     }
 }
 
-/// The run with these numbers.
-pub(crate) fn run_of(
-    rounds: u32,
-    turn: u32,
-    workers: u32,
-    chunk: u32,
-    wave: u32,
-    tick: u32,
-    chains: bool,
-) -> Run
-    requires plan { AreInRange turn workers chunk wave }
-    requires tick { IsTick tick }
-    ensures { Has rounds turn workers chunk wave tick chains result }
+/// The plan with these numbers.
+pub(crate) fn plan_of(turn: u32, workers: u32, chunk: u32, wave: u32) -> Plan
+    requires range { AreInRange turn workers chunk wave }
+    ensures turn { result.turn.steps ≡ turn }
+    ensures workers { result.workers ≡ workers }
+    ensures chunk { result.chunk ≡ chunk }
+    ensures wave { result.wave ≡ wave }
 {
-    match (Plan::new(turn, workers, chunk, wave), Tick::new(tick)) {
-        (Ok(plan), Ok(tick)) => Run {
-            rounds,
-            plan,
-            tick,
-            chains,
-        },
-        _ => unreachable!(),
+    match Plan::new(turn, workers, chunk, wave) {
+        Ok(plan) => plan,
+        Err(_) => unreachable!(),
     }
 }
 
-// The replay with these numbers.
-fn replay_of(turn: u32, tick: u32, chains: bool) -> Replay
-    requires turn { IsTurn turn }
-    requires tick { IsTick tick }
-    ensures { HasReplay turn tick chains result }
+/// The tick of so many rounds.
+pub(crate) fn tick_of(rounds: u32) -> Tick
+    requires range { IsTick rounds }
+    ensures { result.rounds ≡ rounds }
 {
-    match (Turn::new(turn), Tick::new(tick)) {
-        (Ok(turn), Ok(tick)) => Replay { turn, tick, chains },
-        _ => unreachable!(),
+    match Tick::new(rounds) {
+        Ok(tick) => tick,
+        Err(_) => unreachable!(),
     }
 }
 
-/// The number of an option, or `otherwise` if it isn't given.
-pub(crate) fn count<'a>(
+// The turn of so many steps.
+fn turn_of(steps: u32) -> Turn
+    requires range { IsTurn steps }
+    ensures { result.steps ≡ steps }
+{
+    match Turn::new(steps) {
+        Ok(turn) => turn,
+        Err(_) => unreachable!(),
+    }
+}
+
+// The first value of an option, as clap returns it.
+fn value_of<'a>(matches: &ArgMatches<'a>, name: &str) -> Option<&'a str>
+    ensures { option_map (λ s. s.now) result ≡ first_of name.now (rows_of (found_of matches.now)) }
+{
+    matches.get_str(name)
+}
+
+// The number that the decimal digits of an option's value mean, or `otherwise` if it isn't given.
+// `OutOfRange` if the value isn't a number from `low` to `most`.
+fn count<'a>(
     matches: &ArgMatches<'a>,
     name: &'static str,
     low: u32,
@@ -78,9 +88,13 @@ pub(crate) fn count<'a>(
 ) -> Result<u32, Misuse<'a>>
     requires small { most ≤ MAX_OPTION_NUMBER }
     requires within { (low ≤ otherwise) × (otherwise ≤ most) }
+    ensures number { IfOk result
+        (HasNumber name.now low most otherwise (rows_of (found_of matches.now))) }
     ensures within { IfOk result (λ n. (low ≤ n) × (n ≤ most)) }
+    ensures refused { IfErr result
+        (IsOutOfRange name.entry low most (rows_of (found_of matches.now))) }
 {
-    let Some(text) = matches.get_str(name) else {
+    let Some(text) = value_of(matches, name) else {
         return Ok(otherwise);
     };
     match number(text.as_bytes(), low, most) {
@@ -96,34 +110,62 @@ pub(crate) fn count<'a>(
 
 // How many workers there are.
 fn read_workers<'a>(matches: &ArgMatches<'a>) -> Result<u32, Misuse<'a>>
-    ensures { IfOk result (λ n. (1 ≤ n) × (n ≤ MAX_WORKERS)) }
+    ensures number { IfOk result (HasWorkers (rows_of (found_of matches.now))) }
+    ensures within { IfOk result AreWorkers }
 {
     count(matches, "workers", 1, MAX_WORKERS, defaults::WORKERS)
 }
 
-/// The run of so many rounds with the numbers of the other options.
-pub(crate) fn read_run<'a>(
-    matches: &ArgMatches<'a>,
-    rounds: u32,
-    chains: bool,
-) -> Result<Run, Misuse<'a>>
-    ensures { IfOk result (λ run. run.rounds ≡ rounds) }
+// How many steps a turn has.
+fn read_turn<'a>(matches: &ArgMatches<'a>) -> Result<Turn, Misuse<'a>>
+    ensures { IfOk result (HasTurn (rows_of (found_of matches.now))) }
 {
-    let turn = count(matches, "turn", 1, MAX_TURN_STEPS, defaults::TURN)?;
+    let steps = count(matches, "turn", 1, MAX_TURN_STEPS, defaults::TURN)?;
+    Ok(turn_of(steps))
+}
+
+// How often the clock ticks.
+fn read_tick<'a>(matches: &ArgMatches<'a>) -> Result<Tick, Misuse<'a>>
+    ensures { IfOk result (HasTick (rows_of (found_of matches.now))) }
+{
+    let rounds = count(matches, "tick", 1, MAX_TICK_ROUNDS, defaults::TICK)?;
+    Ok(tick_of(rounds))
+}
+
+// How a round is made.
+fn read_plan<'a>(matches: &ArgMatches<'a>) -> Result<Plan, Misuse<'a>>
+    ensures { IfOk result (HasPlan (rows_of (found_of matches.now))) }
+{
+    let turn = read_turn(matches)?;
     let workers = read_workers(matches)?;
     let chunk = count(matches, "chunk", 1, MAX_CHUNK_PROCESSES, defaults::CHUNK)?;
     let wave = count(matches, "wave", 1, MAX_CHUNK_PROCESSES, defaults::WAVE)?;
-    let tick = count(matches, "tick", 1, MAX_TICK_ROUNDS, defaults::TICK)?;
-    Ok(run_of(rounds, turn, workers, chunk, wave, tick, chains))
+    Ok(plan_of(turn.steps(), workers, chunk, wave))
+}
+
+/// The run with the numbers of the options.
+pub(crate) fn read_run<'a>(matches: &ArgMatches<'a>) -> Result<Run, Misuse<'a>>
+    ensures numbers { IfOk result (HasRun (rows_of (found_of matches.now))) }
+    ensures range { IfOk result (λ run. run.rounds ≤ MAX_ROUNDS) }
+{
+    Ok(Run {
+        rounds: count(matches, "rounds", 0, MAX_ROUNDS, defaults::ROUNDS)?,
+        plan: read_plan(matches)?,
+        tick: read_tick(matches)?,
+        chains: matches.get_flag("chains"),
+    })
 }
 
 /// The run until nothing can move, with the numbers of the options.
 pub(crate) fn read_outcome<'a>(matches: &ArgMatches<'a>) -> Result<UntilStill, Misuse<'a>>
-    ensures { IfOk result (λ how. how.limit ≤ MAX_ROUNDS) }
+    ensures numbers { IfOk result (HasOutcome (rows_of (found_of matches.now))) }
+    ensures range { IfOk result (λ how. how.limit ≤ MAX_ROUNDS) }
 {
-    let limit = count(matches, "limit", 0, MAX_ROUNDS, defaults::LIMIT)?;
-    let Run { plan, tick, .. } = read_run(matches, limit, false)?;
-    Ok(UntilStill { limit, plan, tick })
+    Ok(UntilStill {
+        limit: count(matches, "limit", 0, MAX_ROUNDS, defaults::LIMIT)?,
+        plan: read_plan(matches)?,
+        tick: read_tick(matches)?,
+    })
 }
 
 // The form of an outcome that the options choose. The grammar accepts only one of them.
@@ -163,21 +205,22 @@ fn read_trace_form<'a>(matches: &ArgMatches<'a>) -> TraceForm {
 
 /// The trace with the numbers of the options. It ends with the last round that is reported.
 pub(crate) fn read_trace<'a>(matches: &ArgMatches<'a>) -> Result<Tracing, Misuse<'a>>
-    ensures { IfOk result (λ how. how.rounds ≤ MAX_ROUNDS) }
+    ensures numbers { IfOk result (HasTrace (rows_of (found_of matches.now))) }
+    ensures rounds { IfOk result (λ how. how.rounds ≤ MAX_ROUNDS) }
+    ensures from { IfOk result (λ how. (1 ≤ how.from) × (how.from ≤ MAX_ROUNDS)) }
 {
     let rounds = count(matches, "rounds", 0, MAX_ROUNDS, defaults::ROUNDS)?;
-    let from = count(matches, "from", 1, MAX_ROUNDS, 1)?;
-    let to = count(matches, "to", 1, MAX_ROUNDS, MAX_ROUNDS)?;
+    let from = count(matches, "from", 1, MAX_ROUNDS, defaults::FROM)?;
+    let to = count(matches, "to", 1, MAX_ROUNDS, defaults::TO)?;
     if to < from {
         return Err(Misuse::FromAboveTo);
     }
-    let Run { plan, tick, .. } = read_run(matches, rounds, false)?;
     Ok(Tracing {
         rounds: rounds.min(to),
         from,
         form: read_trace_form(matches),
-        plan,
-        tick,
+        plan: read_plan(matches)?,
+        tick: read_tick(matches)?,
     })
 }
 
@@ -229,14 +272,19 @@ fn read_show<'a>(alloc: Global, matches: &ArgMatches<'a>) -> Result<Vec<&'a str>
 }
 
 /// The replay with the numbers of the options.
-pub(crate) fn read_replay<'a>(matches: &ArgMatches<'a>) -> Result<Replay, Misuse<'a>> {
-    let turn = count(matches, "turn", 1, MAX_TURN_STEPS, defaults::TURN)?;
-    let tick = count(matches, "tick", 1, MAX_TICK_ROUNDS, defaults::TICK)?;
-    Ok(replay_of(turn, tick, matches.get_flag("chains")))
+pub(crate) fn read_replay<'a>(matches: &ArgMatches<'a>) -> Result<Replay, Misuse<'a>>
+    ensures { IfOk result (HasReplay (rows_of (found_of matches.now))) }
+{
+    Ok(Replay {
+        turn: read_turn(matches)?,
+        tick: read_tick(matches)?,
+        chains: matches.get_flag("chains"),
+    })
 }
 
 /// The search with the numbers of the options.
 pub(crate) fn read_search<'a>(matches: &ArgMatches<'a>) -> Result<Searching, Misuse<'a>>
+    ensures numbers { IfOk result (HasSearch (rows_of (found_of matches.now))) }
     ensures states { IfOk result (λ how. (1 ≤ how.states) × (how.states ≤ MAX_OPTION_NUMBER)) }
     ensures memory { IfOk result (λ how. (1 ≤ how.memory) × (how.memory ≤ MAX_ROUNDS)) }
 {

@@ -1,7 +1,9 @@
 //! From the words of a command line to a command.
 
-ghost use Rattle.std.specs.Prelude.{◌≡◌, ◌≤◌, IfOk, IsOk, length};
+ghost use Rattle.std.specs.Prelude.{◌≡◌, ◌≤◌, IfOk, IsOk, length, option_map};
+ghost use Rattle.clap.specs.Words.{found_of, rows_of, subcommand_rows_of};
 ghost use Rattle.cp_cli.specs.Commands.{IsInRange, IsWithoutWords};
+ghost use Rattle.cp_cli.specs.Options.{HasNumbers, HasNumbersOf};
 
 use crate::command::{Command, CommandError, Inputs, Invocation};
 use crate::completions::Shell;
@@ -9,16 +11,16 @@ use crate::defaults::{CHUNK, ROUNDS, TICK, TURN, WAVE, WORKERS};
 use crate::grammar::{grammar, usage_of};
 use crate::inputs::read_inputs;
 use crate::misuse::Misuse;
-use crate::numbers::MAX_ROUNDS;
 use crate::options::{
-    count, read_colours, read_only, read_outcome, read_replay, read_run, read_search, read_shown,
-    read_trace, run_of,
+    plan_of, read_colours, read_only, read_outcome, read_replay, read_run, read_search, read_shown,
+    read_trace, tick_of,
 };
 use crate::servers::read_servers;
 use crate::unknown::meant_by;
 use clap::ArgMatches;
 use clap::error::ErrorKind;
 use cp_base_config::explaining::{Explaining, Extent, Form};
+use cp_base_config::run::Run;
 use cp_explain_pages::rules::{is_like_rule, rule_page};
 use std::alloc::Global;
 use std::convert::AsStr;
@@ -42,7 +44,8 @@ fn explaining(matches: &ArgMatches<'_>) -> Explaining {
 // The command `explain` of parsed arguments: explains the rule with that name, or else the text of
 // the file with that name.
 fn explain<'a>(file: &'a str, matches: &ArgMatches<'a>) -> Result<Command<'a>, Misuse<'a>>
-    ensures { IfOk result IsInRange }
+    ensures range { IfOk result IsInRange }
+    ensures numbers { IfOk result (HasNumbers (rows_of (found_of matches.now))) }
 {
     match rule_page(file) {
         Some(_) if matches.get_flag("all") => Err(Misuse::AllOfRule),
@@ -63,12 +66,12 @@ fn run<'a>(
     file: &'a str,
     matches: &ArgMatches<'a>,
 ) -> Result<Command<'a>, Misuse<'a>>
-    ensures { IfOk result IsInRange }
+    ensures range { IfOk result IsInRange }
+    ensures numbers { IfOk result (HasNumbers (rows_of (found_of matches.now))) }
 {
-    let rounds = count(matches, "rounds", 0, MAX_ROUNDS, ROUNDS)?;
     Ok(Command::Run {
         file: Some(file),
-        run: read_run(matches, rounds, matches.get_flag("chains"))?,
+        run: read_run(matches)?,
         input: read_inputs(alloc, matches)?.beside(&[file])?,
         progress: matches.get_flag("progress"),
     })
@@ -80,7 +83,8 @@ fn outcome<'a>(
     file: &'a str,
     matches: &ArgMatches<'a>,
 ) -> Result<Command<'a>, Misuse<'a>>
-    ensures { IfOk result IsInRange }
+    ensures range { IfOk result IsInRange }
+    ensures numbers { IfOk result (HasNumbers (rows_of (found_of matches.now))) }
 {
     Ok(Command::Outcome {
         file,
@@ -98,7 +102,8 @@ fn trace<'a>(
     file: &'a str,
     matches: &ArgMatches<'a>,
 ) -> Result<Command<'a>, Misuse<'a>>
-    ensures { IfOk result IsInRange }
+    ensures range { IfOk result IsInRange }
+    ensures numbers { IfOk result (HasNumbers (rows_of (found_of matches.now))) }
 {
     Ok(Command::Trace {
         file,
@@ -115,7 +120,8 @@ fn search<'a>(
     file: &'a str,
     matches: &ArgMatches<'a>,
 ) -> Result<Command<'a>, Misuse<'a>>
-    ensures { IfOk result IsInRange }
+    ensures range { IfOk result IsInRange }
+    ensures numbers { IfOk result (HasNumbers (rows_of (found_of matches.now))) }
 {
     Ok(Command::Search {
         file,
@@ -133,7 +139,8 @@ fn replay<'a>(
     file: &'a str,
     matches: &ArgMatches<'a>,
 ) -> Result<Command<'a>, Misuse<'a>>
-    ensures { IfOk result IsInRange }
+    ensures range { IfOk result IsInRange }
+    ensures numbers { IfOk result (HasNumbers (rows_of (found_of matches.now))) }
 {
     let Some(order) = matches.get_str("ORDER") else {
         return Err(Misuse::Missing { what: "ORDER" });
@@ -148,7 +155,8 @@ fn replay<'a>(
 
 // The command `completions` of parsed arguments.
 fn completions<'a>(matches: &ArgMatches<'a>) -> Result<Command<'a>, Misuse<'a>>
-    ensures { IfOk result IsInRange }
+    ensures range { IfOk result IsInRange }
+    ensures numbers { IfOk result (HasNumbers (rows_of (found_of matches.now))) }
 {
     let Some(word) = matches.get_str("SHELL") else {
         return Err(Misuse::Missing { what: "SHELL" });
@@ -165,7 +173,8 @@ fn command_of<'a>(
     name: &str,
     matches: &ArgMatches<'a>,
 ) -> Result<Command<'a>, Misuse<'a>>
-    ensures { IfOk result IsInRange }
+    ensures range { IfOk result IsInRange }
+    ensures numbers { IfOk result (HasNumbers (rows_of (found_of matches.now))) }
 {
     if name == "completions" {
         return completions(matches);
@@ -186,7 +195,9 @@ fn command_of<'a>(
 
 // The command of parsed arguments, and its colours. The grammar requires a command.
 fn invocation_of<'a>(alloc: Global, matches: &ArgMatches<'a>) -> Result<Invocation<'a>, Misuse<'a>>
-    ensures { IfOk result (λ invocation. IsInRange invocation.command) }
+    ensures range { IfOk result (λ invocation. IsInRange invocation.command) }
+    ensures numbers { let rows = option_map (λ p. p.1) (subcommand_rows_of matches.now) in
+        IfOk result (λ invocation. HasNumbersOf rows invocation.command) }
 {
     let Some((name, matches)) = matches.subcommand() else {
         return Err(Misuse::Missing { what: "a command" });
@@ -203,7 +214,12 @@ fn without_words<'a>() -> Command<'a>
 {
     Command::Run {
         file: None,
-        run: run_of(ROUNDS, TURN, WORKERS, CHUNK, WAVE, TICK, false),
+        run: Run {
+            rounds: ROUNDS,
+            plan: plan_of(TURN, WORKERS, CHUNK, WAVE),
+            tick: tick_of(TICK),
+            chains: false,
+        },
         input: Inputs::Empty,
         progress: false,
     }
