@@ -1,5 +1,12 @@
 //! What a trace reads of a machine.
 
+ghost use Rattle.cp_kernel.specs.KernelOf.{transcripts_of};
+ghost use Rattle.cp_model_machine.specs.KernelSteps.{gate_of};
+ghost use Rattle.cp_model_machine.specs.Machines as plain;
+ghost use Rattle.cp_rounds.specs.ProcessStates.{state_at};
+ghost use Rattle.cp_rounds.specs.Values.{value_at};
+ghost use Rattle.cp_rounds.specs.Views.{machine_of, output_of};
+
 use crate::machine::Machine;
 use cp_compile_symbols::{Base, Field, TypeRow};
 use cp_inspect::inspect::Inspect;
@@ -12,6 +19,18 @@ use cp_private::kernel_view::Holder;
 use std::alloc::{AllocError, Global};
 
 impl Inspect for Machine<'_, '_> {
+    ghost state = { λ m p. state_at (machine_of m) p };
+
+    ghost written = { λ m p. plain.transcript_of (machine_of m).transcripts p };
+
+    ghost held = { λ m p. output_of (machine_of m) p };
+
+    ghost holder = { λ m n. (gate_of (machine_of m).kernel.gates n).holder };
+
+    ghost askers = { λ m n. (gate_of (machine_of m).kernel.gates n).askers };
+
+    ghost value = { λ m place. value_at (machine_of m) place };
+
     fn state_of(&self, process: u32) -> ProcState {
         self.state(process)
     }
