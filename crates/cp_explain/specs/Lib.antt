@@ -1,3 +1,4 @@
 pub mod Asked
 pub mod Explained
 pub mod Objects
+pub mod Values

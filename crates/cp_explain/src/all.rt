@@ -1,11 +1,9 @@
 //! All violations of a text that has a tree, in short.
 
-use crate::explain::heading_of;
-use cp_base_names::Key;
+use crate::explain::{Source, heading_of};
 use cp_explain_rules::of_violation_in_short;
 use cp_frontend::refusal::Refusal;
 use cp_model::rules::Violation;
-use cp_model::tree::Tree;
 use cp_output::page::Page;
 use cp_rules::text::violations;
 use std::alloc::{AllocError, Global};
@@ -53,15 +51,15 @@ fn push_count(page: &mut Page, count: usize, reported: usize) {
 }
 
 /// All violations of a text in short, in the order of the text, and their number. The first comes
-/// without its heading. The key is that of the names. Fails only if memory runs out.
-pub fn of_all(
-    alloc: Global,
-    key: Key,
-    file: &[u8],
-    text: &[u8],
-    tree: &Tree,
-) -> Result<Vec<u8>, AllocError> {
+/// without its heading. Fails only if memory runs out.
+pub(crate) fn of_all(alloc: Global, source: &Source<'_>) -> Result<Vec<u8>, AllocError> {
     let mut page = Page::new(alloc);
+    let Source {
+        key,
+        file,
+        text,
+        tree,
+    } = *source;
     let list = violations(alloc, key, tree)?;
     let reported = most(text).min(list.len());
     let mut is_first = true;

@@ -1,8 +1,11 @@
 //! What is asked about a text: an explanation in one of its forms (`specs/Asked.antt`).
 
-ghost use Rattle.std.specs.Prelude.{IfErr, IfOk};
-ghost use Rattle.cp_explain.specs.Asked.{WroteAs};
+ghost use Rattle.std.specs.Prelude.{◌≡◌, IfErr, IfOk, Option};
+ghost use Rattle.std.specs.Io.KnownBytes.{Keeps};
+ghost use Rattle.cp_explain.specs.Asked.{WroteAs, WrotePartAs};
 ghost use Rattle.cp_frontend.specs.KnownRefusals.{IsFault};
+ghost use Rattle.cp_frontend.specs.declared.refusal.Refusal.{Refusal};
+ghost use Rattle.cp_frontend.specs.declared.refusal.Refusal.TheVariants as refusal;
 
 use crate::explain::{draw_text, explain_all_text, explain_text};
 use crate::object::explain_object;
@@ -17,7 +20,8 @@ use std::io::{Read, Write};
 ///
 /// # Errors
 ///
-/// I1 if a read fails, M if memory runs out, and I2 if a write fails.
+/// I1 if a read fails, M if memory runs out, and I2 if a write fails. After I1 and M nothing has
+/// been written.
 pub fn explain_as<R: Read, W: Write, E: Write>(
     alloc: Global,
     file: &[u8],
@@ -28,6 +32,15 @@ pub fn explain_as<R: Read, W: Write, E: Write>(
 ) -> Result<Option<Refusal>, Refusal>
     ensures explains { IfOk result
         (λ e. WroteAs what file.now (R.remaining text.old) e (W.contents out.old)
+        (W.contents out.new) (E.contents errors.old) (E.contents errors.new)) }
+    ensures unwritten { IfErr result
+        (λ e. (e ≡ refusal.Write → ⊥)
+        → Keeps (W.contents out.old) (W.contents out.new)
+        × Keeps (E.contents errors.old) (E.contents errors.new)) }
+    ensures part { IfErr result
+        (λ e. e ≡ refusal.Write
+        → (why : Option Refusal)
+        × WrotePartAs what file.now (R.remaining text.old) why (W.contents out.old)
         (W.contents out.new) (E.contents errors.old) (E.contents errors.new)) }
     ensures fault { IfErr result IsFault }
 {

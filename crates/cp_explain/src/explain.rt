@@ -1,14 +1,15 @@
 //! The explanation of a text: the judgement of `check`, written for people
 //! (`specs/Explained.antt`).
 
-ghost use Rattle.std.specs.Prelude.{◌≡◌, ◌++◌, IfErr, IfOk, IfSome, None, OnErr, OnOk, Some};
+ghost use Rattle.std.specs.Prelude.{◌≡◌, ◌++◌, IfErr, IfOk, IfSome, OnOk, Option, Some};
 ghost use Rattle.std.specs.Io.KnownBytes.{Keeps};
 ghost use Rattle.cp_model.specs.View as view;
 ghost use Rattle.cp_frontend.specs.KnownRefusals.{IsFault};
 ghost use Rattle.cp_frontend.specs.Takings.{front};
 ghost use Rattle.cp_frontend.specs.Texts.{IsTextOf, Refuses};
 ghost use Rattle.cp_frontend.specs.declared.refusal.Refusal.TheVariants as refusal;
-ghost use Rattle.cp_explain.specs.Explained.{Begins, Explains, Wrote, code_of, heading, place_of};
+ghost use Rattle.cp_frontend.specs.declared.refusal.Refusal.{Refusal};
+ghost use Rattle.cp_explain.specs.Explained.{Begins, Drew, DrewPart, Explains, Wrote, WrotePart, code_of, heading, place_of};
 
 use crate::all::of_all;
 use crate::lacking::push_lacking;
@@ -36,6 +37,15 @@ use std::io::{Read, Write};
 pub struct Explanation {
     pub(crate) page: Vec<u8>,
     pub(crate) refusal: Option<Refusal>,
+}
+
+/// A text that has a tree, its file, and the key of its names.
+#[derive(Clone, Copy)]
+pub(crate) struct Source<'a> {
+    pub(crate) key: Key,
+    pub(crate) file: &'a [u8],
+    pub(crate) text: &'a [u8],
+    pub(crate) tree: &'a Tree,
 }
 
 /// The place at which a text is refused.
@@ -116,16 +126,13 @@ fn explain_refusal(
 // What is reported of a text that breaks a rule, after the first heading.
 fn reported_of_tree(
     alloc: Global,
-    key: Key,
-    file: &[u8],
-    text: &[u8],
-    tree: &Tree,
+    source: &Source<'_>,
     violation: Violation,
     extent: Extent,
 ) -> Result<Vec<u8>, AllocError> {
     match extent {
-        Extent::First => of_violation(alloc, key, text, tree, violation),
-        Extent::All => of_all(alloc, key, file, text, tree),
+        Extent::First => of_violation(alloc, source.key, source.text, source.tree, violation),
+        Extent::All => of_all(alloc, source),
     }
 }
 
@@ -190,7 +197,13 @@ fn of_tree(
             })
         }
         Err(RuleError::Broken(violation)) => {
-            let reported = reported_of_tree(alloc, key, file, text, tree, violation, extent)?;
+            let source = Source {
+                key,
+                file,
+                text,
+                tree,
+            };
+            let reported = reported_of_tree(alloc, &source, violation, extent)?;
             explain_refusal(alloc, file, text, Refusal::from(violation), &reported)
         }
         Err(RuleError::Memory) => Err(AllocError),
@@ -240,7 +253,8 @@ pub(crate) fn read<R: Read>(alloc: Global, text: &mut R) -> Result<Vec<u8>, Refu
 ///
 /// # Errors
 ///
-/// I1 if a read fails, M if memory runs out, and I2 if a write fails.
+/// I1 if a read fails, M if memory runs out, and I2 if a write fails. After I1 and M nothing has
+/// been written.
 pub fn draw_text<R: Read, W: Write, E: Write>(
     alloc: Global,
     file: &[u8],
@@ -248,13 +262,18 @@ pub fn draw_text<R: Read, W: Write, E: Write>(
     out: &mut W,
     errors: &mut E,
 ) -> Result<Option<Refusal>, Refusal>
-    ensures drawn { IfOk result
-        (λ e. (e ≡ None)
-        → Wrote file.now (R.remaining text.old) e (W.contents out.old) (W.contents out.new)) }
-    ensures explained { IfOk result
-        (λ e. (e ≡ None → ⊥)
-        → Wrote file.now (R.remaining text.old) e (E.contents errors.old)
-        (E.contents errors.new)) }
+    ensures draws { IfOk result
+        (λ e. Drew file.now (R.remaining text.old) e (W.contents out.old) (W.contents out.new)
+        (E.contents errors.old) (E.contents errors.new)) }
+    ensures unwritten { IfErr result
+        (λ e. (e ≡ refusal.Write → ⊥)
+        → Keeps (W.contents out.old) (W.contents out.new)
+        × Keeps (E.contents errors.old) (E.contents errors.new)) }
+    ensures part { IfErr result
+        (λ e. e ≡ refusal.Write
+        → (why : Option Refusal)
+        × DrewPart file.now (R.remaining text.old) why (W.contents out.old) (W.contents out.new)
+        (E.contents errors.old) (E.contents errors.new)) }
     ensures fault { IfErr result IsFault }
 {
     let bytes = read(alloc, text)?;
@@ -280,6 +299,10 @@ fn explain_to<R: Read, W: Write>(
     ensures unwritten { IfErr result
         (λ e. (e ≡ refusal.Write → ⊥)
         → Keeps (W.contents out.old) (W.contents out.new)) }
+    ensures part { IfErr result
+        (λ e. e ≡ refusal.Write
+        → (why : Option Refusal)
+        × WrotePart file.now (R.remaining text.old) why (W.contents out.old) (W.contents out.new)) }
     ensures fault { IfErr result IsFault }
 {
     let bytes = read(alloc, text)?;
@@ -306,6 +329,10 @@ pub fn explain_text<R: Read, W: Write>(
     ensures unwritten { IfErr result
         (λ e. (e ≡ refusal.Write → ⊥)
         → Keeps (W.contents out.old) (W.contents out.new)) }
+    ensures part { IfErr result
+        (λ e. e ≡ refusal.Write
+        → (why : Option Refusal)
+        × WrotePart file.now (R.remaining text.old) why (W.contents out.old) (W.contents out.new)) }
     ensures fault { IfErr result IsFault }
 {
     explain_to(alloc, file, text, form, Extent::First, out)
@@ -329,6 +356,10 @@ pub fn explain_all_text<R: Read, W: Write>(
     ensures unwritten { IfErr result
         (λ e. (e ≡ refusal.Write → ⊥)
         → Keeps (W.contents out.old) (W.contents out.new)) }
+    ensures part { IfErr result
+        (λ e. e ≡ refusal.Write
+        → (why : Option Refusal)
+        × WrotePart file.now (R.remaining text.old) why (W.contents out.old) (W.contents out.new)) }
     ensures fault { IfErr result IsFault }
 {
     explain_to(alloc, file, text, Form::Lines, Extent::All, out)

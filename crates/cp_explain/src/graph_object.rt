@@ -1,30 +1,74 @@
-//! The access graph of an accepted text, for programs, taken from its lines.
+//! The access graph of an accepted text, for programs, taken from its lines
+//! (`specs/Values.antt`).
 
+ghost use Rattle.cp_explain.specs.Values.{component_value, graph_value, rights_value};
+ghost use Rattle.serde_json.specs.Events.{SendsValue};
+
+use crate::fields::{count_fields, write_field, write_some};
 use crate::parts::{items, lines};
-use serde::Serialize;
+use serde::{Described, Serialize, Serializer};
 use std::alloc::{AllocError, Global};
 
 /// A component of an accepted text.
-#[derive(Drop, Serialize)]
+#[derive(Drop)]
 pub struct ComponentObject {
     sort: String,
     name: String,
-    #[serde(rename = "type", skip_serializing_if = "Option::is_none")]
     of: Option<String>,
 }
 
 /// The components to which one has rights.
-#[derive(Drop, Serialize)]
+#[derive(Drop)]
 pub struct RightsObject {
     from: String,
     to: Vec<String>,
 }
 
 /// The access graph of an accepted text.
-#[derive(Drop, Serialize)]
+#[derive(Drop)]
 pub struct GraphObject {
     components: Vec<ComponentObject>,
     rights: Vec<RightsObject>,
+}
+
+impl Described for ComponentObject {
+    ghost writes = { λ component. SendsValue (component_value component) };
+}
+
+impl Serialize for ComponentObject {
+    fn serialize<S: Serializer>(&self, out: &mut S) -> Result<(), S::Error> {
+        out.begin_map(Some(count_fields(2, &self.of)))?;
+        write_field(out, "sort", &self.sort)?;
+        write_field(out, "name", &self.name)?;
+        write_some(out, "type", &self.of)?;
+        out.end_map()
+    }
+}
+
+impl Described for RightsObject {
+    ghost writes = { λ rights. SendsValue (rights_value rights) };
+}
+
+impl Serialize for RightsObject {
+    fn serialize<S: Serializer>(&self, out: &mut S) -> Result<(), S::Error> {
+        out.begin_map(Some(2))?;
+        write_field(out, "from", &self.from)?;
+        write_field(out, "to", &self.to)?;
+        out.end_map()
+    }
+}
+
+impl Described for GraphObject {
+    ghost writes = { λ graph. SendsValue (graph_value graph) };
+}
+
+impl Serialize for GraphObject {
+    fn serialize<S: Serializer>(&self, out: &mut S) -> Result<(), S::Error> {
+        out.begin_map(Some(2))?;
+        write_field(out, "components", &self.components)?;
+        write_field(out, "rights", &self.rights)?;
+        out.end_map()
+    }
 }
 
 // The place of these two bytes.

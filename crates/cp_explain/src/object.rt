@@ -1,169 +1,64 @@
 //! The explanation of a text as a JSON object, for programs.
 
-ghost use Rattle.std.specs.Prelude.{◌≡◌, IfErr, IfOk};
+ghost use Rattle.std.specs.Prelude.{◌≡◌, IfErr, IfOk, OnOk, Option};
 ghost use Rattle.std.specs.Io.KnownBytes.{Keeps};
 ghost use Rattle.cp_model.specs.View as view;
 ghost use Rattle.cp_frontend.specs.KnownRefusals.{IsFault};
-ghost use Rattle.cp_frontend.specs.Texts.{IsTextOf, Refuses};
+ghost use Rattle.cp_frontend.specs.Texts.{IsTextOf};
+ghost use Rattle.cp_frontend.specs.declared.refusal.Refusal.{Refusal};
 ghost use Rattle.cp_frontend.specs.declared.refusal.Refusal.TheVariants as refusal;
-ghost use Rattle.cp_explain.specs.Objects.{IsObjectOf, WroteObject};
-ghost use Rattle.cp_output.specs.Json.{IsJsonLine};
+ghost use Rattle.cp_explain.specs.Explained.{RefusedWith};
+ghost use Rattle.cp_explain.specs.Objects.{FirstIs, IsObjectOf, IsViolationOf, WroteObject, WroteObjectPart};
 
+use crate::accepted_object::AcceptedObject;
 use crate::all::most;
-use crate::explain::{Explanation, place, push_code, read};
-use crate::graph_object::GraphObject;
-use crate::parts::Parts;
+use crate::explain::{Explanation, place, read};
+use crate::refusal_objects::{Mark, RefusalObject, ViolationObject};
 use crate::reported::{later_mistakes, of_no_tree, refusal_of};
-use crate::token_end::token_end;
-use cp_base_config::explaining::{Extent, Form};
+use cp_base_config::explaining::Extent;
 use cp_base_names::Key;
-use cp_explain_notes::{NoteText, notes};
-use cp_explain_rights::graph::graph;
 use cp_explain_rules::of_violation;
 use cp_frontend::checking::tree_of;
 use cp_frontend::refusal::Refusal;
 use cp_frontend::writing::write_result;
 use cp_model::rules::Violation;
 use cp_model::tree::Tree;
-use cp_output::object::{FORMAT, line};
-use cp_output::position::Position;
 use cp_rules::text::{RuleError, judge, violations};
-use serde::Serialize;
 use std::alloc::{AllocError, Global};
 use std::io::{Read, Write};
 
-/// Why a text is refused: a violation or a syntax error.
-#[derive(Drop, Serialize)]
-pub(crate) struct ViolationObject {
-    rule: String,
-    line: usize,
-    column: usize,
-    offset: usize,
-    #[serde(rename = "endLine")]
-    end_line: usize,
-    #[serde(rename = "endColumn")]
-    end_column: usize,
-    message: String,
-    advice: String,
-    hints: Vec<String>,
-    expected: Vec<String>,
-}
-
-// What is doomed in an accepted text.
-#[derive(Drop, Serialize)]
-struct NoteObject {
-    line: usize,
-    column: usize,
-    offset: usize,
-    message: String,
-    advice: String,
-}
-
-#[derive(Drop, Serialize)]
-struct AcceptedObject {
-    format: u32,
-    accepted: bool,
-    file: String,
-    notes: Vec<NoteObject>,
-    graph: GraphObject,
-}
-
-#[derive(Drop, Serialize)]
-struct RefusedObject {
-    format: u32,
-    accepted: bool,
-    file: String,
-    violations: Vec<ViolationObject>,
-    // How many more violations there are.
-    #[serde(skip_serializing_if = "Option::is_none")]
-    untold: Option<usize>,
-}
-
-fn strings(alloc: Global, list: &[&[u8]]) -> Result<Vec<String>, AllocError> {
-    let mut all = Vec::new(alloc);
-    for bytes in list {
-        all.push(String::from_utf8_lossy(alloc, bytes)?)?;
-    }
-    Ok(all)
-}
-
-// A violation, with the words of its page.
-fn violation_object(
-    alloc: Global,
-    text: &[u8],
-    refusal: &Refusal,
-    page: &[u8],
-) -> Result<ViolationObject, AllocError> {
-    let offset = place(refusal);
-    let position = Position::of(text, offset);
-    let end = Position::of(text, token_end(text, offset));
-    let parts = Parts::of(alloc, page)?;
-    let mut rule = Vec::new(alloc);
-    push_code(&mut rule, refusal)?;
-    Ok(ViolationObject {
-        rule: String::from_utf8_lossy(alloc, &rule)?,
-        line: position.line,
-        column: position.column,
-        offset,
-        end_line: end.line,
-        end_column: end.column,
-        message: String::from_utf8_lossy(alloc, parts.message)?,
-        advice: String::from_utf8_lossy(alloc, parts.advice)?,
-        hints: strings(alloc, &parts.hints)?,
-        expected: strings(alloc, &parts.expected)?,
-    })
-}
-
-fn note_object(alloc: Global, note: &NoteText) -> Result<NoteObject, AllocError> {
-    Ok(NoteObject {
-        line: note.position.line,
-        column: note.position.column,
-        offset: note.at,
-        message: String::from_utf8_lossy(alloc, &note.head)?,
-        advice: String::from_utf8_lossy(alloc, &note.advice)?,
-    })
-}
-
-// The page with the line of an object, and why the text is refused.
-fn page_of<T: Serialize>(
-    alloc: Global,
-    object: &T,
-    refusal: Option<Refusal>,
-) -> Result<Explanation, AllocError>
-    ensures refusal { IfOk result (λ e. e.refusal ≡ refusal) }
-    ensures line { IfOk result (λ e. IsJsonLine e.page.items) }
-{
-    let page = line(alloc, object)?;
-    Ok(Explanation { page, refusal })
-}
-
-// The notes on an accepted text.
-fn note_objects(
+// A violation of a text that has a tree.
+fn of_rule(
     alloc: Global,
     key: Key,
     text: &[u8],
     tree: &Tree,
-) -> Result<Vec<NoteObject>, AllocError> {
-    let mut all = Vec::new(alloc);
-    for note in &notes(alloc, key, text, tree)? {
-        all.push(note_object(alloc, note)?)?;
-    }
-    Ok(all)
+    violation: Violation,
+) -> Result<ViolationObject, AllocError>
+    ensures { IfOk result
+        (IsViolationOf text.now (refusal.Check violation.rule violation.at)) }
+{
+    let reported = of_violation(alloc, key, text, tree, violation)?;
+    ViolationObject::of(alloc, text, &Refusal::from(violation), &reported)
 }
 
-/// The violations that are reported of a text. Fails only if memory runs out.
+/// The violations that are reported of a text: the first, and then those after it in the list of
+/// all. Fails only if memory runs out.
 pub(crate) fn violation_objects(
     alloc: Global,
     key: Key,
     text: &[u8],
     tree: &Tree,
+    first: Violation,
     list: &[Violation],
-) -> Result<Vec<ViolationObject>, AllocError> {
+) -> Result<Vec<ViolationObject>, AllocError>
+    ensures { IfOk result
+        (λ all. FirstIs text.now (refusal.Check first.rule first.at) all.items) }
+{
     let mut all = Vec::new(alloc);
-    for violation in list.iter().take(most(text)) {
-        let reported = of_violation(alloc, key, text, tree, *violation)?;
-        let refusal = Refusal::from(*violation);
-        all.push(violation_object(alloc, text, &refusal, &reported)?)?;
+    all.push(of_rule(alloc, key, text, tree, first)?)?;
+    for violation in list.iter().take(most(text)).skip(1) {
+        all.push(of_rule(alloc, key, text, tree, *violation)?)?;
     }
     Ok(all)
 }
@@ -182,39 +77,25 @@ fn violations_of(
     }
 }
 
-// A refused text: so many of its violations.
-fn refused(
+// Explains a text that breaks a rule.
+fn of_broken(
     alloc: Global,
-    file: &[u8],
-    violations: Vec<ViolationObject>,
-    count: usize,
-) -> Result<RefusedObject, AllocError> {
-    let untold = count.saturating_sub(violations.len());
-    Ok(RefusedObject {
-        format: FORMAT,
-        accepted: false,
-        file: String::from_utf8_lossy(alloc, file)?,
-        violations,
-        untold: if untold == 0 { None } else { Some(untold) },
-    })
-}
-
-// An accepted text: the notes on it, and its access graph.
-fn accepted(
-    alloc: Global,
-    key: Key,
     file: &[u8],
     text: &[u8],
     tree: &Tree,
-) -> Result<AcceptedObject, AllocError> {
-    let lines = graph(alloc, key, tree, Form::Lines)?.finish()?;
-    Ok(AcceptedObject {
-        format: FORMAT,
-        accepted: true,
-        file: String::from_utf8_lossy(alloc, file)?,
-        notes: note_objects(alloc, key, text, tree)?,
-        graph: GraphObject::of(alloc, &lines)?,
-    })
+    violation: Violation,
+    extent: Extent,
+) -> Result<Explanation, AllocError>
+    requires refused { RefusedWith text.now (refusal.Check violation.rule violation.at) }
+    ensures { IfOk result (λ e. IsObjectOf text.now e.refusal e.page.items) }
+{
+    let key = Key::of(tree);
+    let list = violations_of(alloc, key, tree, violation, extent)?;
+    let objects = violation_objects(alloc, key, text, tree, violation, &list)?;
+    let object = RefusalObject::of(alloc, Mark::Accepted, file, objects, list.len())?;
+    let page = object.line(alloc)?;
+    let refusal = Some(Refusal::from(violation));
+    Ok(Explanation { page, refusal })
 }
 
 fn of_tree(
@@ -230,17 +111,37 @@ fn of_tree(
     let key = Key::of(tree);
     match judge(alloc, key, tree) {
         Ok(()) => {
-            let accepted = accepted(alloc, key, file, text, tree)?;
-            page_of(alloc, &accepted, None)
+            let page = AcceptedObject::of(alloc, key, file, text, tree)?.line(alloc)?;
+            Ok(Explanation {
+                page,
+                refusal: None,
+            })
         }
-        Err(RuleError::Broken(violation)) => {
-            let list = violations_of(alloc, key, tree, violation, extent)?;
-            let objects = violation_objects(alloc, key, text, tree, &list)?;
-            let refused = refused(alloc, file, objects, list.len())?;
-            page_of(alloc, &refused, Some(Refusal::from(violation)))
-        }
+        Err(RuleError::Broken(violation)) => of_broken(alloc, file, text, tree, violation, extent),
         Err(RuleError::Memory) => Err(AllocError),
     }
+}
+
+// Adds the syntax errors of a text after the first one, if all are to be reported.
+fn push_later(
+    alloc: Global,
+    all: &mut Vec<ViolationObject>,
+    text: &[u8],
+    refusal: Refusal,
+    extent: Extent,
+) -> Result<(), AllocError>
+    ensures { (e : Refusal) → FirstIs text.now e all.old.items
+        → OnOk result (FirstIs text.now e all.new.items) }
+{
+    if extent != Extent::All {
+        return Ok(());
+    }
+    for mistake in later_mistakes(alloc, text, refusal)? {
+        let later = refusal_of(&mistake);
+        let reported = mistake.page.finish()?;
+        all.push(ViolationObject::of(alloc, text, &later, &reported)?)?;
+    }
+    Ok(())
 }
 
 /// Why a text has no tree: the first reason, or all of its syntax errors. Fails only if memory runs
@@ -250,17 +151,13 @@ pub(crate) fn mistake_objects(
     text: &[u8],
     refusal: Refusal,
     extent: Extent,
-) -> Result<Vec<ViolationObject>, AllocError> {
+) -> Result<Vec<ViolationObject>, AllocError>
+    ensures { IfOk result (λ all. FirstIs text.now refusal all.items) }
+{
     let reported = of_no_tree(alloc, text, place(&refusal), refusal)?.finish()?;
     let mut all = Vec::new(alloc);
-    all.push(violation_object(alloc, text, &refusal, &reported)?)?;
-    if extent == Extent::All {
-        for mistake in later_mistakes(alloc, text, refusal)? {
-            let later = refusal_of(&mistake);
-            let reported = mistake.page.finish()?;
-            all.push(violation_object(alloc, text, &later, &reported)?)?;
-        }
-    }
+    all.push(ViolationObject::of(alloc, text, &refusal, &reported)?)?;
+    push_later(alloc, &mut all, text, refusal, extent)?;
     Ok(all)
 }
 
@@ -272,12 +169,14 @@ fn of_refusal(
     refusal: Refusal,
     extent: Extent,
 ) -> Result<Explanation, AllocError>
-    requires refused { Refuses text.now refusal }
+    requires refused { RefusedWith text.now refusal }
     ensures { IfOk result (λ e. IsObjectOf text.now e.refusal e.page.items) }
 {
     let objects = mistake_objects(alloc, text, refusal, extent)?;
-    let refused = refused(alloc, file, objects, 0)?;
-    page_of(alloc, &refused, Some(refusal))
+    let object = RefusalObject::of(alloc, Mark::Accepted, file, objects, 0)?;
+    let page = object.line(alloc)?;
+    let refusal = Some(refusal);
+    Ok(Explanation { page, refusal })
 }
 
 /// Explains a text by an object: the notes on it and its access graph if it is accepted, or else
@@ -315,6 +214,10 @@ pub fn explain_object<R: Read, W: Write>(
     ensures unwritten { IfErr result
         (λ e. (e ≡ refusal.Write → ⊥)
         → Keeps (W.contents out.old) (W.contents out.new)) }
+    ensures part { IfErr result
+        (λ e. e ≡ refusal.Write
+        → (why : Option Refusal)
+        × WroteObjectPart (R.remaining text.old) why (W.contents out.old) (W.contents out.new)) }
     ensures fault { IfErr result IsFault }
 {
     let bytes = read(alloc, text)?;

@@ -2,19 +2,20 @@
 
 ghost use Rattle.std.specs.Prelude.{◌≡◌, IfOk, IfSome, None};
 ghost use Rattle.cp_model.specs.View as view;
-ghost use Rattle.cp_frontend.specs.Texts.{IsTextOf, Refuses};
-ghost use Rattle.cp_explain.specs.Objects.{Judges};
-ghost use Rattle.cp_output.specs.Json.{IsJsonLine};
+ghost use Rattle.cp_frontend.specs.Texts.{IsTextOf};
+ghost use Rattle.cp_frontend.specs.declared.refusal.Refusal.TheVariants as refusal;
+ghost use Rattle.cp_explain.specs.Explained.{RefusedWith};
+ghost use Rattle.cp_explain.specs.Objects.{IsRefusedText, Judges};
 
-use crate::object::{ViolationObject, mistake_objects, violation_objects};
+use crate::object::{mistake_objects, violation_objects};
+use crate::refusal_objects::{Mark, RefusalObject};
 use cp_base_config::explaining::Extent;
 use cp_base_names::Key;
 use cp_frontend::checking::tree_of;
 use cp_frontend::refusal::Refusal;
+use cp_model::rules::Violation;
 use cp_model::tree::Tree;
-use cp_output::object::{FORMAT, line};
 use cp_rules::text::{RuleError, judge, violations};
-use serde::Serialize;
 use std::alloc::{AllocError, Global};
 
 /// Why a text is refused, and the line of the object that has its violations.
@@ -24,37 +25,23 @@ pub struct RefusedText {
     pub page: Vec<u8>,
 }
 
-#[derive(Drop, Serialize)]
-struct RefusedObject {
-    format: u32,
-    verdict: &'static str,
-    file: String,
-    violations: Vec<ViolationObject>,
-    // How many more violations there are.
-    #[serde(skip_serializing_if = "Option::is_none")]
-    untold: Option<usize>,
-}
-
-// The object of a text that has so many violations, of which these are shown.
-fn refused(
+// The object of a text that breaks a rule.
+fn of_broken(
     alloc: Global,
     file: &[u8],
-    violations: Vec<ViolationObject>,
-    count: usize,
-    refusal: Refusal,
+    text: &[u8],
+    tree: &Tree,
+    violation: Violation,
 ) -> Result<RefusedText, AllocError>
-    ensures refusal { IfOk result (λ refused. refused.refusal ≡ refusal) }
-    ensures line { IfOk result (λ refused. IsJsonLine refused.page.items) }
+    requires refused { RefusedWith text.now (refusal.Check violation.rule violation.at) }
+    ensures { IfOk result (λ refused. IsRefusedText text.now refused.refusal refused.page.items) }
 {
-    let untold = count.saturating_sub(violations.len());
-    let object = RefusedObject {
-        format: FORMAT,
-        verdict: "refused",
-        file: String::from_utf8_lossy(alloc, file)?,
-        violations,
-        untold: if untold == 0 { None } else { Some(untold) },
-    };
-    let page = line(alloc, &object)?;
+    let key = Key::of(tree);
+    let list = violations(alloc, key, tree)?;
+    let objects = violation_objects(alloc, key, text, tree, violation, &list)?;
+    let object = RefusalObject::of(alloc, Mark::Verdict, file, objects, list.len())?;
+    let page = object.line(alloc)?;
+    let refusal = Refusal::from(violation);
     Ok(RefusedText { refusal, page })
 }
 
@@ -67,16 +54,13 @@ fn of_tree(
     requires text { IsTextOf text.now (view.tree tree.now) }
     ensures accepted { IfOk result (λ found. found ≡ None → Judges text.now None) }
     ensures refused { IfOk result (λ found. IfSome found
-        (λ refused. Refuses text.now refused.refusal × IsJsonLine refused.page.items)) }
+        (λ refused. IsRefusedText text.now refused.refusal refused.page.items)) }
 {
     let key = Key::of(tree);
     match judge(alloc, key, tree) {
         Ok(()) => Ok(None),
         Err(RuleError::Broken(violation)) => {
-            let list = violations(alloc, key, tree)?;
-            let objects = violation_objects(alloc, key, text, tree, &list)?;
-            let refusal = Refusal::from(violation);
-            Ok(Some(refused(alloc, file, objects, list.len(), refusal)?))
+            Ok(Some(of_broken(alloc, file, text, tree, violation)?))
         }
         Err(RuleError::Memory) => Err(AllocError),
     }
@@ -88,14 +72,14 @@ fn of_refusal(
     file: &[u8],
     text: &[u8],
     refusal: Refusal,
-) -> Result<Option<RefusedText>, AllocError>
-    requires refused { Refuses text.now refusal }
-    ensures some { IfOk result (λ found. found ≡ None → ⊥) }
-    ensures refused { IfOk result (λ found. IfSome found
-        (λ refused. Refuses text.now refused.refusal × IsJsonLine refused.page.items)) }
+) -> Result<RefusedText, AllocError>
+    requires refused { RefusedWith text.now refusal }
+    ensures { IfOk result (λ refused. IsRefusedText text.now refused.refusal refused.page.items) }
 {
     let objects = mistake_objects(alloc, text, refusal, Extent::All)?;
-    Ok(Some(refused(alloc, file, objects, 0, refusal)?))
+    let object = RefusalObject::of(alloc, Mark::Verdict, file, objects, 0)?;
+    let page = object.line(alloc)?;
+    Ok(RefusedText { refusal, page })
 }
 
 /// Why a text is refused, and the line of an object with all of its violations, as
@@ -111,11 +95,11 @@ pub fn refused_object(
 ) -> Result<Option<RefusedText>, AllocError>
     ensures accepted { IfOk result (λ found. found ≡ None → Judges text.now None) }
     ensures refused { IfOk result (λ found. IfSome found
-        (λ refused. Refuses text.now refused.refusal × IsJsonLine refused.page.items)) }
+        (λ refused. IsRefusedText text.now refused.refusal refused.page.items)) }
 {
     match tree_of(alloc, text) {
         Ok(tree) => of_tree(alloc, file, text, &tree),
         Err(Refusal::Memory) => Err(AllocError),
-        Err(refusal) => of_refusal(alloc, file, text, refusal),
+        Err(refusal) => Ok(Some(of_refusal(alloc, file, text, refusal)?)),
     }
 }

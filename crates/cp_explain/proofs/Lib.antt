@@ -1,0 +1,3 @@
+mod First
+mod Lines
+mod Sent
