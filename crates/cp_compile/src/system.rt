@@ -18,6 +18,7 @@ use crate::unit::compile_unit;
 use cp_base_names::NameTable;
 use cp_compile_emit::Emitter;
 use cp_compile_emit::plan::Planner;
+use cp_compile_lower::Translator;
 use cp_compile_symbols::{RoutineTable, Scope, SystemTable, Tables};
 use cp_model::tree::{Routine, Sort, Statement};
 use cp_program::operation::Operation;
@@ -83,15 +84,12 @@ impl<'s, 't> SystemCompiler<'s, 't> {
         let last = Operation::Return {
             function: is_function,
         };
-        compile_unit(
-            self.planner.alloc(),
-            &scope,
-            starts,
-            last,
-            &text.body.statements,
-            text.name.at,
-            emitter,
-        )
+        let translator = Translator {
+            scope,
+            alloc: self.planner.alloc(),
+            origin: text.name.at,
+        };
+        compile_unit(translator, starts, last, &text.body.statements, emitter)
     }
 
     // Compiles routines.
@@ -135,15 +133,12 @@ impl<'s, 't> SystemCompiler<'s, 't> {
         if !scope.component_fits() {
             return emitter.add_stub(0, Vec::new(alloc));
         }
-        compile_unit(
+        let translator = Translator {
+            scope,
             alloc,
-            &scope,
-            Vec::new(alloc),
-            end_of(sort),
-            body,
             origin,
-            emitter,
-        )
+        };
+        compile_unit(translator, Vec::new(alloc), end_of(sort), body, emitter)
     }
 
     /// Compiles the routines and the body of the system type. The body begins at the place

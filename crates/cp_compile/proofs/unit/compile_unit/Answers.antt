@@ -39,5 +39,5 @@ returns-clause-code c = λ known s d i is.
 pub returns-clause-origin : goal.returns-clause-origin
 returns-clause-origin c = λ s i.
     let more = (c.in_ok-entry.ensures s i).emits.origins_continue in
-    let first = c.in_ok-at.ensures.origin ∙ ap (λ v. v.items ++ c.args.origin ∷ []) c.begin.ensures.origins in
+    let first = c.in_ok-at.ensures.origin ∙ ap (λ v. v.items ++ c.args.translator.origin ∷ []) c.begin.ensures.origins in
     (more.0, ap (λ v. v.items) c.in_ok-end.ensures.origins ∙ more.1 ∙ ap (λ xs. xs ++ more.0) first)
