@@ -1,3 +1,4 @@
+mod About
 mod First
 mod Lines
 mod Sent

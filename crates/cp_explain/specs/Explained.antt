@@ -41,6 +41,11 @@ Begins front page = (rest : List ℕ) × (page ≡ front ++ rest)
 abbrev pub RefusedWith : List ℕ → Refusal → Type 0
 RefusedWith text e = Refuses text e × (concern e ≡ Text)
 
+-- What is returned isn't a refusal, or one that is about the text.
+abbrev pub IsOfText : Option Refusal → Type 0
+IsOfText None = Unit {0}
+IsOfText (Some e) = concern e ≡ Text
+
 -- The text is accepted, or it is refused with `e` and the page begins with the heading for `e`.
 abbrev pub Explains : List ℕ → List ℕ → Option Refusal → List ℕ → Type 0
 Explains file text None page = (t : s.Tree) × IsAccepted text t

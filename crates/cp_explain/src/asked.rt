@@ -3,7 +3,8 @@
 ghost use Rattle.std.specs.Prelude.{◌≡◌, IfErr, IfOk, Option};
 ghost use Rattle.std.specs.Io.KnownBytes.{Keeps};
 ghost use Rattle.cp_explain.specs.Asked.{WroteAs, WrotePartAs};
-ghost use Rattle.cp_frontend.specs.KnownRefusals.{IsFault};
+ghost use Rattle.cp_explain.specs.Explained.{IsOfText};
+ghost use Rattle.cp_frontend.specs.KnownRefusals.{IsBeforeWriting, IsFault};
 ghost use Rattle.cp_frontend.specs.declared.refusal.Refusal.{Refusal};
 ghost use Rattle.cp_frontend.specs.declared.refusal.Refusal.TheVariants as refusal;
 
@@ -30,11 +31,12 @@ pub fn explain_as<R: Read, W: Write, E: Write>(
     out: &mut W,
     errors: &mut E,
 ) -> Result<Option<Refusal>, Refusal>
+    ensures about { IfOk result IsOfText }
     ensures explains { IfOk result
         (λ e. WroteAs what file.now (R.remaining text.old) e (W.contents out.old)
         (W.contents out.new) (E.contents errors.old) (E.contents errors.new)) }
     ensures unwritten { IfErr result
-        (λ e. (e ≡ refusal.Write → ⊥)
+        (λ e. IsBeforeWriting e
         → Keeps (W.contents out.old) (W.contents out.new)
         × Keeps (E.contents errors.old) (E.contents errors.new)) }
     ensures part { IfErr result

@@ -4,12 +4,12 @@
 ghost use Rattle.std.specs.Prelude.{◌≡◌, ◌++◌, IfErr, IfOk, IfSome, OnOk, Option, Some};
 ghost use Rattle.std.specs.Io.KnownBytes.{Keeps};
 ghost use Rattle.cp_model.specs.View as view;
-ghost use Rattle.cp_frontend.specs.KnownRefusals.{IsFault};
+ghost use Rattle.cp_frontend.specs.KnownRefusals.{IsBeforeWriting, IsFault};
 ghost use Rattle.cp_frontend.specs.Takings.{front};
 ghost use Rattle.cp_frontend.specs.Texts.{IsTextOf, Refuses};
 ghost use Rattle.cp_frontend.specs.declared.refusal.Refusal.TheVariants as refusal;
 ghost use Rattle.cp_frontend.specs.declared.refusal.Refusal.{Refusal};
-ghost use Rattle.cp_explain.specs.Explained.{Begins, Drew, DrewPart, Explains, Wrote, WrotePart, code_of, heading, place_of};
+ghost use Rattle.cp_explain.specs.Explained.{Begins, Drew, DrewPart, Explains, IsOfText, Wrote, WrotePart, code_of, heading, place_of};
 
 use crate::all::of_all;
 use crate::lacking::push_lacking;
@@ -242,7 +242,7 @@ pub(crate) fn read<R: Read>(alloc: Global, text: &mut R) -> Result<Vec<u8>, Refu
         (λ bytes. IfSome (R.remaining text.old)
         (λ xs. bytes.items ≡ front xs)) }
     ensures fault { IfErr result IsFault }
-    ensures unwritten { IfErr result (λ e. e ≡ refusal.Write → ⊥) }
+    ensures unwritten { IfErr result IsBeforeWriting }
 {
     Ok(read_text(alloc, text)?)
 }
@@ -255,6 +255,7 @@ pub(crate) fn read<R: Read>(alloc: Global, text: &mut R) -> Result<Vec<u8>, Refu
 ///
 /// I1 if a read fails, M if memory runs out, and I2 if a write fails. After I1 and M nothing has
 /// been written.
+#[tactic(auto, using(crate::proofs::About::of_page))]
 pub fn draw_text<R: Read, W: Write, E: Write>(
     alloc: Global,
     file: &[u8],
@@ -262,11 +263,12 @@ pub fn draw_text<R: Read, W: Write, E: Write>(
     out: &mut W,
     errors: &mut E,
 ) -> Result<Option<Refusal>, Refusal>
+    ensures about { IfOk result IsOfText }
     ensures draws { IfOk result
         (λ e. Drew file.now (R.remaining text.old) e (W.contents out.old) (W.contents out.new)
         (E.contents errors.old) (E.contents errors.new)) }
     ensures unwritten { IfErr result
-        (λ e. (e ≡ refusal.Write → ⊥)
+        (λ e. IsBeforeWriting e
         → Keeps (W.contents out.old) (W.contents out.new)
         × Keeps (E.contents errors.old) (E.contents errors.new)) }
     ensures part { IfErr result
@@ -286,6 +288,7 @@ pub fn draw_text<R: Read, W: Write, E: Write>(
 }
 
 // Explains the text of a reader, with as many violations as `extent` says.
+#[tactic(auto, using(crate::proofs::About::of_page))]
 fn explain_to<R: Read, W: Write>(
     alloc: Global,
     file: &[u8],
@@ -294,10 +297,11 @@ fn explain_to<R: Read, W: Write>(
     extent: Extent,
     out: &mut W,
 ) -> Result<Option<Refusal>, Refusal>
+    ensures about { IfOk result IsOfText }
     ensures explains { IfOk result
         (λ e. Wrote file.now (R.remaining text.old) e (W.contents out.old) (W.contents out.new)) }
     ensures unwritten { IfErr result
-        (λ e. (e ≡ refusal.Write → ⊥)
+        (λ e. IsBeforeWriting e
         → Keeps (W.contents out.old) (W.contents out.new)) }
     ensures part { IfErr result
         (λ e. e ≡ refusal.Write
@@ -324,10 +328,11 @@ pub fn explain_text<R: Read, W: Write>(
     form: Form,
     out: &mut W,
 ) -> Result<Option<Refusal>, Refusal>
+    ensures about { IfOk result IsOfText }
     ensures explains { IfOk result
         (λ e. Wrote file.now (R.remaining text.old) e (W.contents out.old) (W.contents out.new)) }
     ensures unwritten { IfErr result
-        (λ e. (e ≡ refusal.Write → ⊥)
+        (λ e. IsBeforeWriting e
         → Keeps (W.contents out.old) (W.contents out.new)) }
     ensures part { IfErr result
         (λ e. e ≡ refusal.Write
@@ -351,10 +356,11 @@ pub fn explain_all_text<R: Read, W: Write>(
     text: &mut R,
     out: &mut W,
 ) -> Result<Option<Refusal>, Refusal>
+    ensures about { IfOk result IsOfText }
     ensures explains { IfOk result
         (λ e. Wrote file.now (R.remaining text.old) e (W.contents out.old) (W.contents out.new)) }
     ensures unwritten { IfErr result
-        (λ e. (e ≡ refusal.Write → ⊥)
+        (λ e. IsBeforeWriting e
         → Keeps (W.contents out.old) (W.contents out.new)) }
     ensures part { IfErr result
         (λ e. e ≡ refusal.Write

@@ -3,11 +3,11 @@
 ghost use Rattle.std.specs.Prelude.{◌≡◌, IfErr, IfOk, OnOk, Option};
 ghost use Rattle.std.specs.Io.KnownBytes.{Keeps};
 ghost use Rattle.cp_model.specs.View as view;
-ghost use Rattle.cp_frontend.specs.KnownRefusals.{IsFault};
+ghost use Rattle.cp_frontend.specs.KnownRefusals.{IsBeforeWriting, IsFault};
 ghost use Rattle.cp_frontend.specs.Texts.{IsTextOf};
 ghost use Rattle.cp_frontend.specs.declared.refusal.Refusal.{Refusal};
 ghost use Rattle.cp_frontend.specs.declared.refusal.Refusal.TheVariants as refusal;
-ghost use Rattle.cp_explain.specs.Explained.{RefusedWith};
+ghost use Rattle.cp_explain.specs.Explained.{IsOfText, RefusedWith};
 ghost use Rattle.cp_explain.specs.Objects.{FirstIs, IsObjectOf, IsViolationOf, WroteObject, WroteObjectPart};
 
 use crate::accepted_object::AcceptedObject;
@@ -202,6 +202,7 @@ pub fn object(
 ///
 /// I1 if a read fails, M if memory runs out, and I2 if a write fails. After I1 and M nothing has
 /// been written.
+#[tactic(auto, using(crate::proofs::About::of_object))]
 pub fn explain_object<R: Read, W: Write>(
     alloc: Global,
     file: &[u8],
@@ -209,10 +210,11 @@ pub fn explain_object<R: Read, W: Write>(
     extent: Extent,
     out: &mut W,
 ) -> Result<Option<Refusal>, Refusal>
+    ensures about { IfOk result IsOfText }
     ensures explains { IfOk result
         (λ e. WroteObject (R.remaining text.old) e (W.contents out.old) (W.contents out.new)) }
     ensures unwritten { IfErr result
-        (λ e. (e ≡ refusal.Write → ⊥)
+        (λ e. IsBeforeWriting e
         → Keeps (W.contents out.old) (W.contents out.new)) }
     ensures part { IfErr result
         (λ e. e ≡ refusal.Write
